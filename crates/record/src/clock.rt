@@ -33,12 +33,7 @@ impl Clock {
     pub fn reaches(&self, other: &Clock) -> bool
         ensures { λ r. ⌜ r ≡ reached (now (self .entry)) (now (other .entry)) ⌝ }
     {
-        for (board, entry) in self.entries.iter().enumerate() {
-            if *entry < other.entries[board] {
-                return false;
-            }
-        }
-        true
+        at_least(self, other)
     }
 
     /// Raises the entry of this board to the number; it never falls.
@@ -51,4 +46,16 @@ impl Clock {
             entries[board] = entries[board].max(number);
         }
     }
+}
+
+/// Whether each of `these` is at least its like among `those`.
+fn at_least(these: &Clock, those: &Clock) -> bool
+    ensures { λ r. ⌜ r ≡ reached (now (these .entry)) (now (those .entry)) ⌝ }
+{
+    for (board, entry) in these.entries.iter().enumerate() {
+        if *entry < those.entries[board] {
+            return false;
+        }
+    }
+    true
 }

@@ -22,12 +22,21 @@ impl Record {
         ensures answer { λ r. ⌜ r ≡ decoded (now (bytes .entry)) ⌝ }
         ensures rebuilt { λ r. ⌜ made r (λ m. encoded m ≡ Ok (now (bytes .entry))) ⌝ }
     {
+        if bytes.len() != 64 {
+            return Err(Fault::in_record(64));
+        }
+        Record::take_apart(bytes)
+    }
+
+    /// The record in 64 bytes.
+    fn take_apart(bytes: &[u8]) -> Result<Record, Fault>
+        requires { ⌜ length (now bytes) ≡ 64 ⌝ }
+        ensures answer { λ r. ⌜ r ≡ decoded (now (bytes .entry)) ⌝ }
+        ensures rebuilt { λ r. ⌜ made r (λ m. encoded m ≡ Ok (now (bytes .entry))) ⌝ }
+    {
         let [kind, sender, receiver, detail, rest @ ..] = bytes else {
             return Err(Fault::in_record(64));
         };
-        if rest.len() != 60 {
-            return Err(Fault::in_record(64));
-        }
         let Some(rules) = KindRules::of(*kind) else {
             return Err(Fault::in_record(0));
         };
@@ -84,9 +93,18 @@ impl Record {
         ensures bytes { λ r. ⌜ r ≡ bytesOf (now (self .entry)) ⌝ }
         ensures kept { λ _. ⌜ Kept (now (self .entry)) ⌝ }
     {
-        let mut out = [0; 64];
-        self.lay(&mut out);
-        out
+        let mut bytes = [0; 64];
+        self.lay(&mut bytes);
+        bytes
+    }
+
+    /// The bytes of a record that breaks no rule.
+    fn sound_bytes(&self) -> [u8; 64]
+        requires { ⌜ checked (now self) ≡ Ok tt ⌝ }
+        ensures answer { λ r. ⌜ Ok r ≡ encoded (now (self .entry)) ⌝ }
+        ensures back { λ r. ⌜ decoded r ≡ Ok (now (self .entry)) ⌝ }
+    {
+        self.to_bytes()
     }
 
     /// The bytes of the record, or the place at which they would break a rule.
@@ -95,6 +113,6 @@ impl Record {
         ensures back { λ r. ⌜ made r (λ bs. decoded bs ≡ Ok (now (self .entry))) ⌝ }
     {
         self.check()?;
-        Ok(self.to_bytes())
+        Ok(self.sound_bytes())
     }
 }

@@ -30,7 +30,7 @@ impl RecordKind {
 }
 
 /// The numbers from `least` to `most`, both among them.
-#[derive(Clone, Copy, PartialEq, Eq, Debug)]
+#[derive(Clone, Copy)]
 pub struct Bounds {
     pub least: u32,
     pub most: u32,
@@ -62,7 +62,7 @@ impl Bounds {
 
 /// What the records of a kind may hold in byte 3, as serial and as number.
 /// Those that carry a row have a start clock, and byte 3 counts their updates; in the others clock and updates are zero.
-#[derive(Clone, Copy, PartialEq, Eq, Debug)]
+#[derive(Clone, Copy)]
 pub struct KindRules {
     pub kind: RecordKind,
     pub detail: Bounds,

@@ -11,7 +11,7 @@ use Rattle.record.specs.Codec.{decoded}
 use Rattle.record.specs.Faults.{misplaced}
 use Rattle.record.proofs.Apart.{decoded-from-rest}
 use Rattle.record.proofs.Rebuilt.{rebuilt}
-use Rattle.record.proofs.message.Record.decode.Needs as need
+use Rattle.record.proofs.message.Record.take_apart.Needs as need
 
 pub returns-in-None : need.returns-in-None
 returns-in-None c =

@@ -3,9 +3,9 @@ use lib.ListN.{drop}
 use lib.Dec.{leb}
 use Rattle.std.specs.Iters.{counting}
 use Rattle.record.specs.Clocks.{every, entryOf, reached}
-use Rattle.record.proofs.clock.Clock.reaches.Given as given
+use Rattle.record.proofs.clock.at_least.Given as given
 
 -- the boards that are left decide
 abbrev pub Inv-loop-board : given.InvT-loop-board
 Inv-loop-board l =
-    every (λ j. leb (entryOf (l .other) j) (entryOf (l .self) j)) (drop (l .board) (counting 0 8)) ≡ reached (l .self) (l .other)
+    every (λ j. leb (entryOf (l .those) j) (entryOf (l .these) j)) (drop (l .board) (counting 0 8)) ≡ reached (l .these) (l .those)
