@@ -1,10 +1,10 @@
 -- Clocks: what they cover, which reaches which, and what raising an entry does.
-use mathlib.Core.List.{List, [], _∷_}
-use mathlib.Core.Bool.{Bool, true, _&&_}
+use mathlib.Core.Bool.{Bool}
 use Prim.Native.Nat.{ℕ, max}
 use lib.ListN.{getD, set}
 use lib.Dec.{leb}
 use Rattle.std.specs.Iters.{counting}
+use Rattle.record.specs.Every.{every}
 use Rattle.record.specs.declared.clock.Clock.{Clock}
 
 -- the number for board j; 0 for a board that no group has
@@ -14,10 +14,6 @@ entryOf c j = getD (c .entries) j 0
 -- a clock covers row s of board j if its entry for j is at least s
 abbrev pub covered : Clock → ℕ → ℕ → Bool
 covered c j s = leb s (entryOf c j)
-
-abbrev pub every : {X : Type 0} → (X → Bool) → List X → Bool
-every p [] = true
-every p (x ∷ xs) = p x && every p xs
 
 -- a clock reaches another if each of its eight entries is at least the other's
 abbrev pub reached : Clock → Clock → Bool

@@ -1,4 +1,5 @@
 pub mod Faults
+pub mod Every
 pub mod Clocks
 pub mod Kinds
 pub mod Rows

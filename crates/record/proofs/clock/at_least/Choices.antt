@@ -2,7 +2,8 @@ use mathlib.Core.Path.{_≡_}
 use lib.ListN.{drop}
 use lib.Dec.{leb}
 use Rattle.std.specs.Iters.{counting}
-use Rattle.record.specs.Clocks.{every, entryOf, reached}
+use Rattle.record.specs.Clocks.{entryOf, reached}
+use Rattle.record.specs.Every.{every}
 use Rattle.record.proofs.clock.at_least.Given as given
 
 -- the boards that are left decide
