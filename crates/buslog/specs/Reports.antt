@@ -1,5 +1,7 @@
 -- How many lines of a log were explained, and what they held.
 use Prim.Native.Nat.{ℕ, _+_, min}
+use Rattle.std.specs.declared.option.Option.{Option}
+use Rattle.std.specs.declared.option.Option.the-variants.{Some, None}
 use Rattle.buslog.specs.declared.report.Report.{Report}
 use Rattle.buslog.specs.declared.verdict.Verdict.{Verdict}
 use Rattle.buslog.specs.declared.verdict.Verdict.the-variants.{Record, Denied, Other}
@@ -18,3 +20,8 @@ noted r (Denied fault) =
     record { lines = oneMore (r .lines); records = r .records; denied = oneMore (r .denied); others = r .others }
 noted r Other =
     record { lines = oneMore (r .lines); records = r .records; denied = r .denied; others = oneMore (r .others) }
+
+-- a line that is skipped counts for nothing
+abbrev pub counted : Report → Option Verdict → Report
+counted r None = r
+counted r (Some held) = noted r held

@@ -1,6 +1,9 @@
 //! A log explained line by line, and counted.
 ghost use mathlib.Core.Path.{_≡_};
-ghost use Rattle.buslog.specs.Reports.{emptyReport, noted};
+ghost use Rattle.std.specs.Options.{isSome};
+ghost use Rattle.std.specs.Vec.{made};
+ghost use Rattle.buslog.specs.Reports.{emptyReport, noted, counted};
+ghost use Rattle.buslog.specs.Verdicts.{ofLine};
 use crate::text::VerdictDisplay;
 use crate::verdict::Verdict;
 use std::alloc::AllocError;
@@ -41,7 +44,10 @@ impl Report {
     }
 
     /// The text for this line, with its number; none for a line that is skipped.
-    pub fn explain(&mut self, heap: Global, line: &[u8]) -> Result<Option<String>, AllocError> {
+    pub fn explain(&mut self, heap: Global, line: &[u8]) -> Result<Option<String>, AllocError>
+        ensures counted { λ r. ⌜ made r (λ _. now (self .exit) ≡ counted (now (self .entry)) (ofLine (now (line .entry)))) ⌝ }
+        ensures told { λ r. ⌜ made r (λ text. isSome text ≡ isSome (ofLine (now (line .entry)))) ⌝ }
+    {
         match Verdict::of_line(heap, line)? {
             Some(held) => {
                 self.note(&held);
@@ -59,6 +65,9 @@ pub impl fmt::Display for Report as ReportDisplay {
         let records = self.records;
         let denied = self.denied;
         let others = self.others;
-        write!(f, "{lines} lines: {records} records, {denied} denied, {others} not record lines")
+        write!(
+            f,
+            "{lines} lines: {records} records, {denied} denied, {others} not record lines"
+        )
     }
 }

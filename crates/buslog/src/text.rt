@@ -45,7 +45,10 @@ fn write_record<W: fmt::Write>(record: &Record, f: &mut fmt::Formatter<W>) -> fm
             write!(f, "{kind} {sender} to {receiver} number {number}")?
         }
         RecordKind::Propagate => {
-            write!(f, "{kind} {sender} to {receiver} serial {serial} number {number}")?
+            write!(
+                f,
+                "{kind} {sender} to {receiver} serial {serial} number {number}"
+            )?
         }
         _ => write!(f, "{kind} {sender} to {receiver} serial {serial}")?,
     }

@@ -3,6 +3,7 @@ mod bytes;
 mod clock;
 mod codec;
 mod fault;
+pub mod impls;
 mod kind;
 mod layout;
 mod message;

@@ -1,0 +1,22 @@
+//! The derived impls, for `use record::impls::*;`.
+pub use crate::clock::ClockDebug;
+pub use crate::clock::ClockEq;
+pub use crate::clock::ClockPartialEq;
+pub use crate::fault::DenialDebug;
+pub use crate::fault::DenialEq;
+pub use crate::fault::DenialPartialEq;
+pub use crate::fault::FaultDebug;
+pub use crate::fault::FaultEq;
+pub use crate::fault::FaultPartialEq;
+pub use crate::kind::RecordKindDebug;
+pub use crate::kind::RecordKindEq;
+pub use crate::kind::RecordKindPartialEq;
+pub use crate::message::RecordDebug;
+pub use crate::message::RecordEq;
+pub use crate::message::RecordPartialEq;
+pub use crate::row::RowDebug;
+pub use crate::row::RowEq;
+pub use crate::row::RowPartialEq;
+pub use crate::row::UpdateDebug;
+pub use crate::row::UpdateEq;
+pub use crate::row::UpdatePartialEq;
