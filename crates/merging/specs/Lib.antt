@@ -1,0 +1,4 @@
+pub mod Order
+pub mod Counts
+pub mod Marks
+pub mod Values

@@ -1,0 +1,7 @@
+//! What the two merging kinds show on examples.
+#[cfg(test)]
+mod count;
+#[cfg(test)]
+mod highest_mark;
+#[cfg(test)]
+mod merged;
