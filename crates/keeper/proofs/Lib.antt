@@ -1,0 +1,4 @@
+pub mod Fronts
+pub mod Slotted
+pub mod AreaLog
+pub mod FirstLast
