@@ -11,26 +11,18 @@ use keeper::LogKeeper;
 use keeper::RecordArea;
 use keeper::RowTable;
 use keeper::TableKeeper;
-use record::NOBODY;
-use record::RecordKind;
 use record::Row;
+use record::impls::*;
 use std::io;
 
 /// The most rows of a log here.
 const MOST: usize = 64;
 
-/// Whether two rows have the same record; each field of a row stands in it.
-fn same(left: &Row, right: &Row) -> bool {
-    let left = left.to_record(RecordKind::Row, NOBODY).to_bytes();
-    let right = right.to_record(RecordKind::Row, NOBODY).to_bytes();
-    left == right
-}
-
 /// The first place, from 0 to that behind the end, at which the logs have different rows.
 fn first_apart<T: LogKeeper, A: LogKeeper>(table: &T, area: &A) -> Option<usize> {
     let end = table.count().min(MOST);
     for place in 0..end + 1 {
-        if !same(&table.row_at(place), &area.row_at(place)) {
+        if table.row_at(place) != area.row_at(place) {
             return Some(place);
         }
     }
@@ -66,7 +58,7 @@ fn append<T: LogKeeper, A: LogKeeper>(
             area: area.count(),
         });
     }
-    if expected.is_taken() && !same(&area.row_at(kept), &sample.row) {
+    if expected.is_taken() && area.row_at(kept) != sample.row {
         return Some(Difference::Last);
     }
     match first_apart(table, area) {

@@ -12,7 +12,7 @@ use record::Row;
 mod tests;
 
 /// Lends bytes to a fresh log, which takes the row and is let go: the record is then found in the bytes, if the row was taken.
-pub fn keeps(bytes: &mut [u8], row: &Row) -> bool
+pub(crate) fn keeps(bytes: &mut [u8], row: &Row) -> bool
     ensures { λ r. ⌜ now (bytes .exit) ≡ cond r (written (now (bytes .entry)) 0 (bytesOf (rowRecord (now (row .entry))))) (now (bytes .entry)) ⌝ }
 {
     let mut log = RecordArea::over(bytes);

@@ -11,6 +11,7 @@ use record::NOBODY;
 use record::RecordKind;
 use record::Row;
 use record::Update;
+use record::impls::*;
 use std::test::*;
 
 /// A row that breaks no rule; another serial makes another row.
@@ -40,31 +41,24 @@ fn row(serial: u32) -> Row {
     }
 }
 
-/// Whether two rows have the same record; each field of a row stands in it.
-fn same(left: &Row, right: &Row) -> bool {
-    let left = left.to_record(RecordKind::Row, NOBODY).to_bytes();
-    let right = right.to_record(RecordKind::Row, NOBODY).to_bytes();
-    left == right
-}
-
 fn denied(answer: Result<(), Fault>, layer: u8, number: u8, place: u32) -> bool {
-    match answer {
-        Ok(()) => false,
-        Err(fault) => fault.layer == layer && fault.number == number && fault.place == place,
-    }
+    answer.err()
+        == Some(Fault {
+            layer,
+            number,
+            place,
+        })
 }
 
 /// Whether the log has the rows of the serials 1 to `last`, and no other.
 fn holds<K: LogKeeper>(log: &K, last: u16) -> bool {
     for place in 0..last {
-        if !same(&log.row_at(place as usize), &row(place as u32 + 1)) {
+        if log.row_at(place as usize) != row(place as u32 + 1) {
             return false;
         }
     }
     let count = last as usize;
-    log.count() == count
-        && same(&log.row_at(count), &Row::ZERO)
-        && same(&log.row_at(usize::MAX), &Row::ZERO)
+    log.count() == count && log.row_at(count) == Row::ZERO && log.row_at(usize::MAX) == Row::ZERO
 }
 
 /// Denies two bad rows, whether or not there is room.
