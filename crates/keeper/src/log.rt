@@ -22,10 +22,10 @@ pub trait LogKeeper {
     /// Whether the memory is one that a log may begin on.
     ghost ready: { Self → Bool };
 
-    /// There are never more.
+    /// The rows are never more than the capacity.
     ghost within: { (log : Self) → length (rows log) ≤ capacity log };
 
-    /// A log may begin with a capacity of 1 to 4,096.
+    /// A log that may begin has a capacity of 1 to 4,096.
     ghost sized: { (log : Self) → ready log ≡ true → (1 ≤ capacity log) × (capacity log ≤ 4096) };
 
     /// Whether the memory is fit to begin on.

@@ -3,6 +3,7 @@ pub mod Every
 pub mod Clocks
 pub mod Kinds
 pub mod Rows
+pub mod Updates
 pub mod Numbers
 pub mod Layout
 pub mod Rules
