@@ -5,3 +5,4 @@ pub mod Offences
 pub mod Apart
 pub mod Back
 pub mod Rebuilt
+pub mod Unbroken
