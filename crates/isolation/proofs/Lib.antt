@@ -49,14 +49,5 @@ pub mod Clearing
 pub mod Polls
 pub mod Built
 pub mod Opening
--- the records that boards write are sound, and are taken for what they are
-pub mod Sound
-pub mod Accepted
-pub mod GroupRules
-pub mod BuiltGroups
-pub mod SoundClocks
-pub mod SoundRows
-pub mod SoundRecords
-pub mod Others
-pub mod Received
-pub mod Soundness
+pub mod Sending
+pub mod Committing

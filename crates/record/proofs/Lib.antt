@@ -5,4 +5,3 @@ pub mod Offences
 pub mod Apart
 pub mod Back
 pub mod Rebuilt
-pub mod Unbroken
