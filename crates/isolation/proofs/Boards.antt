@@ -1,36 +1,35 @@
 -- A board and its part of the machine's state, after each change of its tables and its log.
 use mathlib.Core.Path.{_≡_, refl, sym, ap, subst, _∙_}
-use mathlib.Core.Bool.{Bool, true, false, cond, _&&_, not}
-use mathlib.Core.Logic.{_⊎_, inl, inr, ⊎-elim}
-use mathlib.Core.List.{List, [], _∷_, _++_, List·Memᴰ, List·Memᴰ·append-cases, List·Memᴰ·eq-of-singleton}
-use Prim.Native.Nat.{ℕ, suc, _+_, max, _≤_, _<_}
+use mathlib.Core.Bool.{Bool, true, false, cond, _&&_}
+use mathlib.Core.Logic.{⊎-elim}
+use mathlib.Core.List.{[], _∷_, _++_, List·Memᴰ, List·Memᴰ·append-cases, List·Memᴰ·eq-of-singleton}
+use Prim.Native.Nat.{ℕ, suc, _≤_, _<_}
 use native.Mathlib.Omega.{arith}
 use lib.Dec.{eqb}
-use lib.ListN.{length, getD, set}
+use lib.ListN.{length}
 use Rattle.std.specs.declared.option.Option.{Option}
 use Rattle.std.specs.declared.option.Option.the-variants.{Some, None}
-use Rattle.std.proofs.shelf.Tests.{cases-eq, cases-bool, eq-eqb, ne-eqb, eqb-true, and-parts, and-from}
+use Rattle.std.proofs.shelf.Tests.{eq-eqb}
 use Rattle.std.proofs.shelf.Lists.{length-set}
 use Rattle.std.proofs.shelf.Ways.{tells}
 use Rattle.record.specs.declared.row.Row.{Row}
-use Rattle.record.specs.Clocks.{entryOf, raised}
 use Rattle.record.specs.Rows.{updatesOf}
 use Rattle.tables.specs.Changes.{placed, locked, released, withOwn, withGot, withShown, withAck}
-use Rattle.tables.specs.Locks.{isUnlocked, freeLocks, withLocks, withoutOwner}
+use Rattle.tables.specs.Locks.{isUnlocked, freeLocks, withLocks}
 use Rattle.tables.specs.Objects.{isOurs, writes, countOurs}
 use Rattle.tables.specs.Places.{isFree, hasSerial, firstAt, placeOf, withPlace}
 use Rattle.tables.specs.Transactions.{started, opened as openedBy, freed}
 use Rattle.tables.specs.declared.place.Place.{Place}
 use Rattle.tables.specs.declared.place.Place.the-variants.{Free, Open}
 use Rattle.tables.specs.declared.tables.Tables.{Tables}
-use Rattle.tables.proofs.Owners.{lockOf, Single, locks-taken, locks-single, without, owner-gone, owner-gone-single}
+use Rattle.tables.proofs.Owners.{lockOf, locks-taken, locks-single, without, owner-gone, owner-gone-single}
 use Rattle.tables.proofs.Serials.{one-serial, put-distinct}
 use Rattle.board.specs.Effects.{State as Board}
 use Rattle.isolation.specs.Groups.{Group}
 use Rattle.isolation.specs.Machine as machine
-use Rattle.isolation.specs.Machine.{Phase, unknown, opened, Holder, free, held, State, put, appends, locks, frees, withPhase, takes}
+use Rattle.isolation.specs.Machine.{Phase, unknown, opened, held, State, put, appends, locks, frees, withPhase, takes}
 use Rattle.isolation.proofs.Invariant.{liveRow}
-use Rattle.isolation.proofs.Carried.{FitClock, FitRow, entry-raised, raised-eight, fit-raised}
+use Rattle.isolation.proofs.Carried.{FitRow, entry-raised, raised-eight, fit-raised}
 use Rattle.isolation.proofs.Simulation.{holderOf, Placed, At}
 use Rattle.isolation.proofs.Placing.{nothing-yet, placed-other, placed-free, placed-start, distinct-start}
 
@@ -68,7 +67,15 @@ module _ (g : Group) (x : Board) (s : State) (b : ℕ) (A : At g x s b) where
   pub at-placed : (t : ℕ) (q : Place) (v : Phase) → hasSerial t q ≡ true → hasSerial t (placeOf (x .tables .places) t) ≡ true → Placed g b t q v
       → At g (withTables x (placed (x .tables) t q)) (withPhase s b t v) b
   at-placed t q v is had Q = record {
-    config = A .config; rows = A .rows; fit-rows = A .fit-rows; gots = A .gots; showns = A .showns; eight = A .eight; fit-shown = A .fit-shown; locks = A .locks; single = A .single;
+    config = A .config;
+    rows = A .rows;
+    fit-rows = A .fit-rows;
+    gots = A .gots;
+    showns = A .showns;
+    eight = A .eight;
+    fit-shown = A .fit-shown;
+    locks = A .locks;
+    single = A .single;
     places = placed-other g b (x .tables .places) (s .phase) (A .places) t v q is had Q;
     distinct = put-distinct t q (x .tables .places) (λ u has. one-serial q u t has is) (A .distinct);
     eight-places = length-set (x .tables .places) (firstAt (hasSerial t) (x .tables .places)) q ∙ A .eight-places;
@@ -78,7 +85,15 @@ module _ (g : Group) (x : Board) (s : State) (b : ℕ) (A : At g x s b) where
   pub at-freed : (t : ℕ) (v : Phase) → hasSerial t (placeOf (x .tables .places) t) ≡ true → liveRow v ≡ None
       → At g (withTables x (freed (x .tables) t)) (withPhase s b t v) b
   at-freed t v had Q = record {
-    config = A .config; rows = A .rows; fit-rows = A .fit-rows; gots = A .gots; showns = A .showns; eight = A .eight; fit-shown = A .fit-shown; locks = A .locks; single = A .single;
+    config = A .config;
+    rows = A .rows;
+    fit-rows = A .fit-rows;
+    gots = A .gots;
+    showns = A .showns;
+    eight = A .eight;
+    fit-shown = A .fit-shown;
+    locks = A .locks;
+    single = A .single;
     places = placed-free g b (x .tables .places) (s .phase) (A .places) t v (A .distinct) Q;
     distinct = put-distinct t Free (x .tables .places) (λ u has. cc) (A .distinct);
     eight-places = length-set (x .tables .places) (firstAt (hasSerial t) (x .tables .places)) Free ∙ A .eight-places;
@@ -88,7 +103,15 @@ module _ (g : Group) (x : Board) (s : State) (b : ℕ) (A : At g x s b) where
   -- a place is freed and no phase changes
   pub at-settled : (t : ℕ) → hasSerial t (placeOf (x .tables .places) t) ≡ true → liveRow (s .phase b t) ≡ None → At g (withTables x (freed (x .tables) t)) s b
   at-settled t had Q = let F = at-freed t (s .phase b t) had Q in record {
-    config = A .config; rows = A .rows; fit-rows = A .fit-rows; gots = A .gots; showns = A .showns; eight = A .eight; fit-shown = A .fit-shown; locks = A .locks; single = A .single;
+    config = A .config;
+    rows = A .rows;
+    fit-rows = A .fit-rows;
+    gots = A .gots;
+    showns = A .showns;
+    eight = A .eight;
+    fit-shown = A .fit-shown;
+    locks = A .locks;
+    single = A .single;
     places = λ u. let e : put (s .phase) b t (s .phase b t) b u ≡ s .phase b u = grind (arith, tells) in subst (Placed g b u (placeOf (withPlace (x .tables .places) t Free) u)) e (F .places u);
     distinct = F .distinct;
     eight-places = F .eight-places;
@@ -102,7 +125,15 @@ module _ (g : Group) (x : Board) (s : State) (b : ℕ) (A : At g x s b) where
       let room′ : firstAt isFree (x .tables .places) < length (x .tables .places) = omega (arith, A .eight-places) in
       let was : s .phase b (x .tables .next) ≡ unknown = A .later (x .tables .next) (omega arith) in
       record {
-        config = A .config; rows = A .rows; fit-rows = A .fit-rows; gots = A .gots; showns = A .showns; eight = A .eight; fit-shown = A .fit-shown; locks = A .locks; single = A .single;
+        config = A .config;
+        rows = A .rows;
+        fit-rows = A .fit-rows;
+        gots = A .gots;
+        showns = A .showns;
+        eight = A .eight;
+        fit-shown = A .fit-shown;
+        locks = A .locks;
+        single = A .single;
         places = placed-start g b (x .tables .places) (s .phase) (A .places) r room′ was Q;
         distinct = distinct-start g b (x .tables .places) (s .phase) (A .places) r room′ was (A .distinct);
         eight-places = length-set (x .tables .places) (firstAt isFree (x .tables .places)) (Open r) ∙ A .eight-places;
@@ -116,26 +147,44 @@ module _ (g : Group) (x : Board) (s : State) (b : ℕ) (A : At g x s b) where
   pub at-locked : (r : Row) → countOurs (x .tables .config) (updatesOf r) ≤ freeLocks (x .tables .locks)
       → At g (withTables x (locked (x .tables) r)) (machine.withLocks s (locks (s .lock) b (wants r) (r .home) (r .serial))) b
   at-locked r enough = record {
-    config = A .config; rows = A .rows; fit-rows = A .fit-rows; gots = A .gots; showns = A .showns; eight = A .eight; fit-shown = A .fit-shown;
+    config = A .config;
+    rows = A .rows;
+    fit-rows = A .fit-rows;
+    gots = A .gots;
+    showns = A .showns;
+    eight = A .eight;
+    fit-shown = A .fit-shown;
     locks = λ o.
-      ap holderOf (locks-taken (x .tables .config) (r .home) (r .serial) (x .tables .locks) (updatesOf r) o enough)
-      ∙ holder-cond (wants r o) (r .home) (r .serial) (lockOf (x .tables .locks) o)
-      ∙ ap (cond (wants r o) (held (r .home) (r .serial))) (A .locks o)
-      ∙ sym (at-self b (cond (wants r o) (held (r .home) (r .serial)) (s .lock b o)) (s .lock b o));
+        ap holderOf (locks-taken (x .tables .config) (r .home) (r .serial) (x .tables .locks) (updatesOf r) o enough)
+        ∙ holder-cond (wants r o) (r .home) (r .serial) (lockOf (x .tables .locks) o)
+        ∙ ap (cond (wants r o) (held (r .home) (r .serial))) (A .locks o)
+        ∙ sym (at-self b (cond (wants r o) (held (r .home) (r .serial)) (s .lock b o)) (s .lock b o));
     single = locks-single (x .tables .config) (r .home) (r .serial) (x .tables .locks) (updatesOf r) (A .single);
-    places = A .places; distinct = A .distinct; eight-places = A .eight-places; later = A .later;
+    places = A .places;
+    distinct = A .distinct;
+    eight-places = A .eight-places;
+    later = A .later;
   }
 
   pub at-released : (h t : ℕ) → At g (withTables x (released (x .tables) h t)) (machine.withLocks s (frees (s .lock) b h t)) b
   at-released h t = record {
-    config = A .config; rows = A .rows; fit-rows = A .fit-rows; gots = A .gots; showns = A .showns; eight = A .eight; fit-shown = A .fit-shown;
+    config = A .config;
+    rows = A .rows;
+    fit-rows = A .fit-rows;
+    gots = A .gots;
+    showns = A .showns;
+    eight = A .eight;
+    fit-shown = A .fit-shown;
     locks = λ o.
-      ap holderOf (owner-gone h t (x .tables .locks) o (A .single))
-      ∙ holder-without h t (lockOf (x .tables .locks) o)
-      ∙ ap (machine.freed h t) (A .locks o)
-      ∙ sym (at-self b (machine.freed h t (s .lock b o)) (s .lock b o));
+        ap holderOf (owner-gone h t (x .tables .locks) o (A .single))
+        ∙ holder-without h t (lockOf (x .tables .locks) o)
+        ∙ ap (machine.freed h t) (A .locks o)
+        ∙ sym (at-self b (machine.freed h t (s .lock b o)) (s .lock b o));
     single = owner-gone-single h t (x .tables .locks) (A .single);
-    places = A .places; distinct = A .distinct; eight-places = A .eight-places; later = A .later;
+    places = A .places;
+    distinct = A .distinct;
+    eight-places = A .eight-places;
+    later = A .later;
   }
 
   own-is : x .tables .config .own ≡ b
@@ -159,23 +208,37 @@ module _ (g : Group) (x : Board) (s : State) (b : ℕ) (A : At g x s b) where
         phase = s .phase;
       }) b
   at-own r k low F small same next = record {
-    config = A .config; rows = log-more r; fit-rows = fit-more r F;
+    config = A .config;
+    rows = log-more r;
+    fit-rows = fit-more r F;
     gots = λ j. rw own-is (entry-raised (x .tables .got) b k j (A .eight) low ∙ grind (arith, tells, A .gots j, A .gots b));
     showns = λ j. rw own-is (entry-raised (x .tables .committed) b k j (A .fit-shown .eight) low ∙ grind (arith, tells, A .showns j, A .showns b));
     eight = raised-eight (x .tables .got) (x .tables .config .own) k (A .eight);
     fit-shown = fit-raised (x .tables .committed) (x .tables .config .own) k (rw own-is low) small (A .fit-shown);
-    locks = A .locks; single = A .single; places = A .places; distinct = A .distinct; eight-places = A .eight-places; later = A .later;
+    locks = A .locks;
+    single = A .single;
+    places = A .places;
+    distinct = A .distinct;
+    eight-places = A .eight-places;
+    later = A .later;
   }
 
   -- a row of another home is in the log
   pub at-taken : (r : Row) → r .home < 8 → FitRow r → r .number ≡ suc (s .got b (r .home)) → At g (withRow x (withGot (x .tables) (r .home) (r .number)) r) (takes s b r) b
   at-taken r low F next = record {
-    config = A .config; rows = log-more r; fit-rows = fit-more r F;
+    config = A .config;
+    rows = log-more r;
+    fit-rows = fit-more r F;
     gots = λ j. entry-raised (x .tables .got) (r .home) (r .number) j (A .eight) low ∙ grind (arith, tells, A .gots j, A .gots (r .home));
     showns = A .showns;
     eight = raised-eight (x .tables .got) (r .home) (r .number) (A .eight);
     fit-shown = A .fit-shown;
-    locks = A .locks; single = A .single; places = A .places; distinct = A .distinct; eight-places = A .eight-places; later = A .later;
+    locks = A .locks;
+    single = A .single;
+    places = A .places;
+    distinct = A .distinct;
+    eight-places = A .eight-places;
+    later = A .later;
   }
 
   -- a row of another home shows
@@ -183,15 +246,34 @@ module _ (g : Group) (x : Board) (s : State) (b : ℕ) (A : At g x s b) where
       → At g (withTables x (withShown (x .tables) h k))
       (record { own = s .own; got = s .got; shown = put (s .shown) b h (suc (s .shown b h)); log = s .log; lock = s .lock; phase = s .phase }) b
   at-shown h k low small next = record {
-    config = A .config; rows = A .rows; fit-rows = A .fit-rows; gots = A .gots;
+    config = A .config;
+    rows = A .rows;
+    fit-rows = A .fit-rows;
+    gots = A .gots;
     showns = λ j. entry-raised (x .tables .committed) h k j (A .fit-shown .eight) low ∙ grind (arith, tells, A .showns j, A .showns h);
     eight = A .eight;
     fit-shown = fit-raised (x .tables .committed) h k low small (A .fit-shown);
-    locks = A .locks; single = A .single; places = A .places; distinct = A .distinct; eight-places = A .eight-places; later = A .later;
+    locks = A .locks;
+    single = A .single;
+    places = A .places;
+    distinct = A .distinct;
+    eight-places = A .eight-places;
+    later = A .later;
   }
 
   pub at-acknowledged : (p k : ℕ) → At g (withTables x (withAck (x .tables) p k)) s b
   at-acknowledged p k = record {
-    config = A .config; rows = A .rows; fit-rows = A .fit-rows; gots = A .gots; showns = A .showns; eight = A .eight; fit-shown = A .fit-shown; locks = A .locks; single = A .single;
-    places = A .places; distinct = A .distinct; eight-places = A .eight-places; later = A .later;
+    config = A .config;
+    rows = A .rows;
+    fit-rows = A .fit-rows;
+    gots = A .gots;
+    showns = A .showns;
+    eight = A .eight;
+    fit-shown = A .fit-shown;
+    locks = A .locks;
+    single = A .single;
+    places = A .places;
+    distinct = A .distinct;
+    eight-places = A .eight-places;
+    later = A .later;
   }

@@ -1,16 +1,14 @@
 -- What holds of a group that was built.
-use mathlib.Core.Path.{_≡_, refl, sym, ap, _∙_}
-use mathlib.Core.Bool.{Bool, true, false, cond, _&&_, not}
+use mathlib.Core.Path.{_≡_, refl}
+use mathlib.Core.Bool.{Bool, true, false, _&&_, not}
 use mathlib.Core.List.{List, [], _∷_}
 use Prim.Native.Nat.{ℕ, zero, suc, _≤_, _<_}
 use native.Mathlib.Omega.{arith}
 use lib.Dec.{eqb, ltb, leb}
 use lib.ListN.{length, getD, take}
-use Rattle.std.specs.declared.result.Result.{Result}
-use Rattle.std.specs.declared.result.Result.the-variants.{Ok, Err}
+use Rattle.std.specs.declared.result.Result.the-variants.{Ok}
 use Rattle.std.proofs.shelf.Tests.{and-parts, ltb-true, leb-true}
 use Rattle.std.proofs.shelf.Lists.{getD-take, length-take-le}
-use Rattle.std.proofs.shelf.Ways.{tells}
 use Rattle.record.specs.Every.{every}
 use Rattle.record.specs.declared.fault.Denial.{Denial}
 use Rattle.record.specs.declared.fault.Denial.the-variants.{Build}
@@ -25,7 +23,7 @@ pub needed : (v : Bool) (why : Denial) (w : Unit {0}) → need v why ≡ Ok w �
 needed true why w e = refl
 needed false why w e = cc
 
-every-at : {X : Type 0} (p : X → Bool) (xs : List X) (i : ℕ) (d : X) → every p xs ≡ true → i < length xs → p (getD xs i d) ≡ true
+pub every-at : {X : Type 0} (p : X → Bool) (xs : List X) (i : ℕ) (d : X) → every p xs ≡ true → i < length xs → p (getD xs i d) ≡ true
 every-at p [] i d e h = absurd (omega arith)
 every-at p (x ∷ xs) zero d e h = and-parts (p x) (every p xs) e .0
 every-at p (x ∷ xs) (suc i) d e h = every-at p xs i d (and-parts (p x) (every p xs) e .1) (omega arith)

@@ -1,21 +1,16 @@
 -- Rows that fit their bytes: a record that carries one comes back from its bytes as it was.
 use mathlib.Core.Path.{_≡_, refl, sym, ap, _∙_}
 use mathlib.Core.Bool.{Bool, true, false, cond}
-use mathlib.Core.Logic.{_⊎_, inl, inr, ⊎-elim}
-use mathlib.Core.List.{List, [], _∷_}
-use Prim.Native.Nat.{ℕ, _+_, max, _≤_, _<_}
+use mathlib.Core.Logic.{⊎-elim}
+use Prim.Native.Nat.{ℕ, max, _≤_, _<_}
 use native.Mathlib.Omega.{arith}
 use lib.Dec.{eqb, lit<}
 use lib.ListN.{length, getD, set, replicate}
-use lib.IntN.{pos}
-use mir.Val.{Fits, SFits}
-use mir.Facts.{fits-lit}
-use mir.Syntax.{w32}
 use Rattle.std.specs.declared.option.Option.{Option}
 use Rattle.std.specs.declared.option.Option.the-variants.{Some, None}
 use Rattle.std.specs.declared.result.Result.{Result}
 use Rattle.std.specs.declared.result.Result.the-variants.{Ok, Err}
-use Rattle.std.proofs.shelf.Tests.{cases-eq, cases-lt, eqb-true}
+use Rattle.std.proofs.shelf.Tests.{cases-eq, cases-lt}
 use Rattle.std.proofs.shelf.Lists.{getD-set-same, getD-set-other, length-set, getD-past, getD-replicate}
 use Rattle.std.proofs.shelf.Ways.{tells}
 use Rattle.record.specs.declared.clock.Clock.{Clock}
@@ -63,7 +58,7 @@ fit-raised c j k h small F = record {
   small = λ i. let e = entry-raised c j k i (F .eight) h in grind (arith, tells, F .small i, F .small j);
 }
 
-zero-entry : (k : ℕ) → entryOf zeroClock k ≡ 0
+pub zero-entry : (k : ℕ) → entryOf zeroClock k ≡ 0
 zero-entry k = ⊎-elim (λ (h : k < 8). getD-replicate 8 k 0 0 h) (λ (h : 8 ≤ k). getD-past (replicate 8 0) k 0 h) (cases-lt k 8)
 
 pub fit-zero : FitClock zeroClock
@@ -78,7 +73,10 @@ sized-none = record { object-fits = lit< tt; element-fits = lit< tt; operand-fit
 pub fit-bare : (h t k d : ℕ) (c : Clock) → t < 4294967296 → k < 65536 → FitClock c
     → FitRow (record { home = h; serial = t; number = k; start = c; count = d; updates = replicate 4 noUpdate })
 fit-bare h t k d c a b F = record {
-  clock = F; four = refl; serial-fits = a; number-fits = b;
+  clock = F;
+  four = refl;
+  serial-fits = a;
+  number-fits = b;
   sized = λ i l. rw (getD-replicate 4 i noUpdate noUpdate l) sized-none;
 }
 
@@ -86,11 +84,14 @@ fit-bare h t k d c a b F = record {
 pub fit-update : (r : Row) (u : Update) (d : ℕ) → r .count < 4 → Sized u → FitRow r
     → FitRow (record { home = r .home; serial = r .serial; number = r .number; start = r .start; count = d; updates = set (r .updates) (r .count) u })
 fit-update r u d low z F = record {
-  clock = F .clock; four = length-set (r .updates) (r .count) u ∙ F .four; serial-fits = F .serial-fits; number-fits = F .number-fits;
+  clock = F .clock;
+  four = length-set (r .updates) (r .count) u ∙ F .four;
+  serial-fits = F .serial-fits;
+  number-fits = F .number-fits;
   sized = λ i l. ⊎-elim
-    (λ (e : i ≡ r .count). rw (e, getD-set-same (r .updates) (r .count) u noUpdate (omega (arith, F .four))) z)
-    (λ (e : i ≡ r .count → ⊥). rw (getD-set-other (r .updates) (r .count) i u noUpdate e) (F .sized i l))
-    (cases-eq i (r .count));
+      (λ (e : i ≡ r .count). rw (e, getD-set-same (r .updates) (r .count) u noUpdate (omega (arith, F .four))) z)
+      (λ (e : i ≡ r .count → ⊥). rw (getD-set-other (r .updates) (r .count) i u noUpdate e) (F .sized i l))
+      (cases-eq i (r .count));
 }
 
 pub fit-numbered : (r : Row) (k : ℕ) → k < 65536 → FitRow r → FitRow (numbered r k)

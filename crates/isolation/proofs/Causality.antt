@@ -73,4 +73,3 @@ module _ (regular : ℕ → Bool) (pref : ℕ → ℕ) (n : ℕ) (es : List Seen
       let P = split nameOf (S .rows) fs x bs (sym (S .same) ∙ e) in
       subst (λ (v : List Transaction). List·Memᴰ y v) (P .to-front)
       (causal-rows b (P .front) (P .back) (P .found) y (P .whole) (subst (λ z. List·Memᴰ y (snapshot es z)) (sym (P .to-found)) m))
-

@@ -1,13 +1,12 @@
 -- What a board's tests of objects tell: which objects are its own, clear, or locked for a transaction.
-use mathlib.Core.Path.{_≡_, refl, sym, ap, subst, _∙_}
-use mathlib.Core.Bool.{Bool, true, false, cond, _&&_, _||_, not}
-use mathlib.Core.Logic.{_⊎_, inl, inr, ⊎-elim}
+use mathlib.Core.Path.{_≡_, refl, sym, ap, _∙_}
+use mathlib.Core.Bool.{Bool, true, _&&_, _||_, not}
+use mathlib.Core.Logic.{inl, inr, ⊎-elim}
 use mathlib.Core.List.{List, [], _∷_, List·Memᴰ, List·Memᴰ·not-nil, List·Memᴰ·cases-cons}
-use Prim.Native.Nat.{ℕ, _<_}
+use Prim.Native.Nat.{ℕ}
 use native.Mathlib.Omega.{arith}
 use lib.Dec.{eqb}
-use Rattle.std.specs.declared.option.Option.the-variants.{Some, None}
-use Rattle.std.proofs.shelf.Tests.{cases-eq, cases-bool, eq-eqb, eqb-true, and-parts, and-from}
+use Rattle.std.proofs.shelf.Tests.{cases-eq, cases-bool, eq-eqb, and-parts, and-from}
 use Rattle.std.proofs.shelf.Ways.{tells}
 use Rattle.record.specs.declared.row.Row.{Row}
 use Rattle.record.specs.declared.row.Update.{Update}
@@ -23,7 +22,7 @@ use Rattle.board.specs.Commits.{isClear, allClear}
 use Rattle.board.specs.Effects.{State as Board}
 use Rattle.board.specs.Logs.{isUnchanged}
 use Rattle.isolation.specs.Events.{Event, seenAll}
-use Rattle.isolation.specs.Groups.{Group, configOf}
+use Rattle.isolation.specs.Groups.{Group}
 use Rattle.isolation.specs.Isolation.{regularIn}
 use Rattle.isolation.specs.Laws.{Writes}
 use Rattle.isolation.specs.Machine.{State, free, held, Clear, Wanted, Among}
@@ -52,8 +51,8 @@ ours-pass c p (u ∷ us) e o ours w =
     let both = and-parts (not (isOurs c (u .object)) || p (u .object)) (everyOurs c p us) e in
     ⊎-elim
     (λ (q : u .object ≡ o).
-      let a : (not (isOurs c o) || p o) ≡ true = rw q at (both .0) in
-      let z : (not true || p o) ≡ true = rw ours at a in z)
+    let a : (not (isOurs c o) || p o) ≡ true = rw q at (both .0) in
+    let z : (not true || p o) ≡ true = rw ours at a in z)
     (λ (q : u .object ≡ o → ⊥). ours-pass c p us (both .1) o ours (grind (arith, tells)))
     (cases-eq (u .object) o)
 
@@ -61,12 +60,6 @@ module _ (g : Group) (es : List Event) (s : State) (x : Board) (b : ℕ) (A : At
     (K : Kept (regularIn g) (preferredIn g) (g .boards) (seenAll es) s (Among (said es))) where
   pub ours : (o : ℕ) → regularIn g o ≡ true → preferredIn g o ≡ b → isOurs (x .tables .config) o ≡ true
   ours o r q = rw (A .config, r, q) (eq-eqb b b refl)
-
-  ours-back : (o : ℕ) → isOurs (x .tables .config) o ≡ true → (regularIn g o ≡ true) × (preferredIn g o ≡ b)
-  ours-back o e =
-      let e′ : (regularIn g o && eqb (preferredIn g o) b) ≡ true = rw (A .config) at e in
-      let both = and-parts (regularIn g o) (eqb (preferredIn g o) b) e′ in
-      (both .0, eqb-true (preferredIn g o) b (both .1))
 
   -- what is clear by the tests is clear
   clear-is : (r : Row) (o : ℕ) → isClear x (r .start) o ≡ true → Clear (Writes (regularIn g)) s b o (r .start)
@@ -76,9 +69,9 @@ module _ (g : Group) (es : List Event) (s : State) (x : Board) (b : ℕ) (A : At
       let log : isUnchanged (s .log b) (r .start) o ≡ true = rw (A .rows) at (both .1) in
       clear-log (Writes (regularIn g)) (preferredIn g) (regularIn g) (g .boards) (seenAll es) s (Among (said es)) (K .invariant) (K .account) b o (r .start) unlocked
       (λ q m w.
-        let t : writes (updatesOf q) o ≡ true = writes-is (updatesOf q) o ∙ writes-touches (regularIn g) (updatesOf q) o w in
-        let a : (not (writes (updatesOf q) o) || isCovered (r .start) q) ≡ true = every-member (λ v. not (writes (updatesOf v) o) || isCovered (r .start) v) (s .log b) q log m in
-        let z : (not true || isCovered (r .start) q) ≡ true = rw t at a in z)
+      let t : writes (updatesOf q) o ≡ true = writes-is (updatesOf q) o ∙ writes-touches (regularIn g) (updatesOf q) o w in
+      let a : (not (writes (updatesOf q) o) || isCovered (r .start) q) ≡ true = every-member (λ v. not (writes (updatesOf v) o) || isCovered (r .start) v) (s .log b) q log m in
+      let z : (not true || isCovered (r .start) q) ≡ true = rw t at a in z)
 
   pub clear-all : (r : Row) → allClear x r ≡ true → (o : ℕ) → Writes (regularIn g) (updatesOf r) o → preferredIn g o ≡ b → Clear (Writes (regularIn g)) s b o (r .start)
   clear-all r e o w q =
@@ -87,16 +80,16 @@ module _ (g : Group) (es : List Event) (s : State) (x : Board) (b : ℕ) (A : At
   pub wanted : (r : Row) → allClear x r ≡ true → Wanted (Writes (regularIn g)) (preferredIn g) s b r (wants g x s b A r)
   wanted r e = record {
     all = λ o w q.
-      let mine = ours o (w .0) q in
-      let t = writes-touches (regularIn g) (updatesOf r) o w in
-      let c = ours-pass (x .tables .config) (isClear x (r .start)) (updatesOf r) e o mine t in
-      let loose = and-parts (isUnlocked (x .tables .locks) o) (isUnchanged (x .rows) (r .start) o) c .0 in
-      and-from (isOurs (x .tables .config) o) (writes (updatesOf r) o && isUnlocked (x .tables .locks) o) mine
-      (and-from (writes (updatesOf r) o) (isUnlocked (x .tables .locks) o) (writes-is (updatesOf r) o ∙ t) loose);
+        let mine = ours o (w .0) q in
+        let t = writes-touches (regularIn g) (updatesOf r) o w in
+        let c = ours-pass (x .tables .config) (isClear x (r .start)) (updatesOf r) e o mine t in
+        let loose = and-parts (isUnlocked (x .tables .locks) o) (isUnchanged (x .rows) (r .start) o) c .0 in
+        and-from (isOurs (x .tables .config) o) (writes (updatesOf r) o && isUnlocked (x .tables .locks) o) mine
+        (and-from (writes (updatesOf r) o) (isUnlocked (x .tables .locks) o) (writes-is (updatesOf r) o ∙ t) loose);
     clear = λ o w.
-      let p = and-parts (isOurs (x .tables .config) o) (writes (updatesOf r) o && isUnlocked (x .tables .locks) o) w in
-      let t : touches (updatesOf r) o ≡ true = sym (writes-is (updatesOf r) o) ∙ and-parts (writes (updatesOf r) o) (isUnlocked (x .tables .locks) o) (p .1) .0 in
-      clear-is r o (ours-pass (x .tables .config) (isClear x (r .start)) (updatesOf r) e o (p .0) t);
+        let p = and-parts (isOurs (x .tables .config) o) (writes (updatesOf r) o && isUnlocked (x .tables .locks) o) w in
+        let t : touches (updatesOf r) o ≡ true = sym (writes-is (updatesOf r) o) ∙ and-parts (writes (updatesOf r) o) (isUnlocked (x .tables .locks) o) (p .1) .0 in
+        clear-is r o (ours-pass (x .tables .config) (isClear x (r .start)) (updatesOf r) e o (p .0) t);
   }
 
   -- what is locked for a row's transaction

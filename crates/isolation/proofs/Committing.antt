@@ -1,18 +1,16 @@
 -- Commit is a step of the machine.
 use mathlib.Core.Path.{_≡_, refl, sym, ap, subst, _∙_}
-use mathlib.Core.Bool.{Bool, true, false, cond, _&&_, not}
-use mathlib.Core.Logic.{_⊎_, inl, inr, ⊎-elim}
-use mathlib.Core.List.{List, [], _∷_, _++_, map, List·Memᴰ}
+use mathlib.Core.Bool.{Bool, true, false}
+use mathlib.Core.Logic.{⊎-elim}
+use mathlib.Core.List.{List}
 use Prim.Native.Nat.{ℕ, suc, _+_, _≤_, _<_}
 use native.Mathlib.Omega.{arith}
-use native.Mathlib.Numerals.{add-one}
 use lib.Dec.{eqb, leb}
 use lib.ListN.{length}
-use Rattle.std.specs.declared.option.Option.the-variants.{Some, None}
+use Rattle.std.specs.declared.option.Option.the-variants.{Some}
 use Rattle.std.specs.declared.result.Result.{Result}
 use Rattle.std.specs.declared.result.Result.the-variants.{Ok, Err}
 use Rattle.std.proofs.shelf.Tests.{cases-eq, eq-eqb, eqb-true, leb-true}
-use Rattle.std.proofs.shelf.Ways.{tells}
 use Rattle.record.specs.declared.fault.Denial.the-variants.{NoLockPlaces, LogFull}
 use Rattle.record.specs.declared.fault.Fault.{Fault}
 use Rattle.record.specs.declared.kind.RecordKind.the-variants.{Prepare, Propagate}
@@ -21,26 +19,23 @@ use Rattle.record.specs.Clocks.{entryOf}
 use Rattle.record.specs.Faults.{keeperFault}
 use Rattle.record.specs.Rows.{updatesOf, recordOf}
 use Rattle.tables.specs.BoardSets.{isIn}
-use Rattle.tables.specs.Changes as tables
 use Rattle.tables.specs.Changes.{placed, lockable, locked, withOwn}
 use Rattle.tables.specs.Locks.{freeLocks}
 use Rattle.tables.specs.Objects.{countOurs, polledFor}
 use Rattle.tables.specs.Places.{hasSerial, placeOf}
-use Rattle.tables.specs.Transactions.{andThen, need, openRow}
-use Rattle.tables.specs.declared.config.Config.{Config}
+use Rattle.tables.specs.Transactions.{andThen, openRow}
 use Rattle.tables.specs.declared.place.Place.the-variants.{Free, Open, Waiting}
-use Rattle.board.specs.Commits as commits
 use Rattle.board.specs.Commits.{allClear, mayAppend, propagates, prepares, bufferFits}
 use Rattle.board.specs.Effects.{State as Board}
 use Rattle.board.specs.Records.{others}
-use Rattle.isolation.specs.Books.{nothing, propagated}
+use Rattle.isolation.specs.Books.{nothing}
 use Rattle.isolation.specs.Calls.{commit}
 use Rattle.isolation.specs.Events.{Event, seenAll, firstPropagate}
 use Rattle.isolation.specs.Groups.{Group, Built, configOf}
 use Rattle.isolation.specs.Isolation.{regularIn}
 use Rattle.isolation.specs.Laws.{Writes}
 use Rattle.isolation.specs.Machine as machine
-use Rattle.isolation.specs.Machine.{Phase, opened, waits, committed, State, Among, locks}
+use Rattle.isolation.specs.Machine.{waits, committed, State, Among, locks}
 use Rattle.isolation.proofs.Boards.{withTables, withRow, wants, at-placed, at-freed, at-locked, at-own}
 use Rattle.isolation.proofs.Built.{needed, boards-few}
 use Rattle.isolation.proofs.Carried.{FitRow, fit-numbered}
@@ -50,10 +45,10 @@ use Rattle.isolation.proofs.Opening.{and-then, open-place, still, dropping}
 use Rattle.isolation.proofs.Polls.{in-zero, polled-in}
 use Rattle.isolation.proofs.Runs.{Kept}
 use Rattle.isolation.proofs.Sending.{copies, fit-copies, none-propagate, propagates-one}
-use Rattle.isolation.proofs.Simulation.{preferredIn, said, Opened, Polled, Placed, At, Step, Steps}
+use Rattle.isolation.proofs.Simulation.{preferredIn, said, Placed, At, Step, Steps}
 use Rattle.isolation.proofs.Written.{may-copies, may-propagate, may-prepare}
 
-may-append : (x : Board) (r : Row) (w : Unit {0}) → mayAppend x r ≡ Ok w → r .number ≤ 4096
+pub may-append : (x : Board) (r : Row) (w : Unit {0}) → mayAppend x r ≡ Ok w → r .number ≤ 4096
 may-append x r w e = by (leb (r .number) 4096) refl
   where
     by : (v : Bool) → leb (r .number) 4096 ≡ v → r .number ≤ 4096
@@ -75,9 +70,6 @@ module _ (g : Group) (built : Built g) (es : List Event) (s : State) (x : Board)
   -- a row that takes it
   abbrev pub next : Row → Row
   next r = machine.numbered r (suc (s .got b b))
-
-  pub next-is : (r : Row) → tables.numbered (x .tables) r ≡ next r
-  next-is r = ap (machine.numbered r) number-is
 
   pub own-row : (r : Row) (w : Unit {0}) → FitRow r → mayAppend x (next r) ≡ Ok w
       → At g (withRow x (withOwn (x .tables) (suc (s .got b b))) (next r))
@@ -106,9 +98,9 @@ module _ (g : Group) (built : Built g) (es : List Event) (s : State) (x : Board)
     near : eqb (polledFor (x .tables .config) (updatesOf r)) 0 ≡ true → (o : ℕ) → Writes (regularIn g) (updatesOf r) o → preferredIn g o ≡ b
     near e o w = ⊎-elim (λ (q : preferredIn g o ≡ b). q)
         (λ (q : preferredIn g o ≡ b → ⊥).
-          let none : polledFor (configOf g b) (updatesOf r) ≡ 0 = rw (A .config) at (eqb-true (polledFor (x .tables .config) (updatesOf r)) 0 e) in
-          let z : isIn 0 (preferredIn g o) ≡ true = rw none at (polled-in g b r (is-open .1 .near) o w q) in
-          absurd (let y : false ≡ true = sym (in-zero (preferredIn g o)) ∙ z in grind arith))
+        let none : polledFor (configOf g b) (updatesOf r) ≡ 0 = rw (A .config) at (eqb-true (polledFor (x .tables .config) (updatesOf r)) 0 e) in
+        let z : isIn 0 (preferredIn g o) ≡ true = rw none at (polled-in g b r (is-open .1 .near) o w q) in
+        absurd (let y : false ≡ true = sym (in-zero (preferredIn g o)) ∙ z in grind arith))
         (cases-eq (preferredIn g o) b)
 
     fast : allClear x r ≡ true → eqb (polledFor (x .tables .config) (updatesOf r)) 0 ≡ true → (w : Unit {0}) → mayAppend x (next r) ≡ Ok w
@@ -124,8 +116,8 @@ module _ (g : Group) (built : Built g) (es : List Event) (s : State) (x : Board)
           s′ = machine.commits s b (r .serial) (next r);
           move = machine.commit b (r .serial) r inside (is-open .0) (near none) (λ o v. clear-all g es s x b A K r clear o v (near none o v));
           may = may-copies (Writes (regularIn g)) (preferredIn g) (machine.commits s b (r .serial) (next r)) (Among (said es))
-            _ (machine.propagate (next r)) (copies (λ p. recordOf Propagate p (next r)) (machine.propagate (next r)) (λ q. refl) (others (x .tables .config) (λ _. true)))
-            (may-propagate (Writes (regularIn g)) (preferredIn g) s (Among (said es)) (K .invariant) b (r .serial) r (s .lock) live);
+              _ (machine.propagate (next r)) (copies (λ p. recordOf Propagate p (next r)) (machine.propagate (next r)) (λ q. refl) (others (x .tables .config) (λ _. true)))
+              (may-propagate (Writes (regularIn g)) (preferredIn g) s (Among (said es)) (K .invariant) b (r .serial) r (s .lock) live);
           at = at-freed g (withRow x (withOwn (x .tables) (suc (s .got b b))) (next r)) _ b B (r .serial) (committed (s .got b b)) had refl;
           fits = fit-copies (λ p. recordOf Propagate p (next r)) (λ q. fit-numbered r (suc (s .got b b)) (omega arith) F) (others (x .tables .config) (λ _. true));
         })
@@ -150,8 +142,8 @@ module _ (g : Group) (built : Built g) (es : List Event) (s : State) (x : Board)
           s′ = machine.withPhase (machine.withLocks s (locks (s .lock) b (wants g x s b A r) b (r .serial))) b (r .serial) (waits r (isIn 0));
           move = machine.wait b (r .serial) r (wants g x s b A r) (isIn 0) (is-open .0) (wanted g es s x b A K r clear) in-zero;
           may = may-copies (Writes (regularIn g)) (preferredIn g) (machine.withPhase (machine.withLocks s (locks (s .lock) b (wants g x s b A r) b (r .serial))) b (r .serial) (waits r (isIn 0))) (Among (said es))
-            _ (machine.prepare r) (copies (λ p. recordOf Prepare p r) (machine.prepare r) (λ q. refl) (others (x .tables .config) (isIn polled)))
-            (may-prepare (Writes (regularIn g)) (preferredIn g) s (Among (said es)) (K .invariant) b (r .serial) r (isIn 0) (locks (s .lock) b (wants g x s b A r) b (r .serial)) (is-open .0));
+              _ (machine.prepare r) (copies (λ p. recordOf Prepare p r) (machine.prepare r) (λ q. refl) (others (x .tables .config) (isIn polled)))
+              (may-prepare (Writes (regularIn g)) (preferredIn g) s (Among (said es)) (K .invariant) b (r .serial) r (isIn 0) (locks (s .lock) b (wants g x s b A r) b (r .serial)) (is-open .0));
           at = subst (λ h. At g (withTables x (locked (placed (x .tables) (r .serial) (Waiting r polled 0)) r)) (machine.withLocks s₁ (locks (s .lock) b (wants g x s b A r) h (r .serial))) b) home C;
           fits = fit-copies (λ p. recordOf Prepare p r) (λ q. is-open .1 .fits) (others (x .tables .config) (isIn polled));
         })

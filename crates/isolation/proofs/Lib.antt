@@ -39,8 +39,7 @@ pub mod Elsewhere
 pub mod Written
 pub mod Writers
 pub mod Logs
-pub mod Found
-pub mod Marks
+-- how boards and the machine go together
 pub mod Carried
 pub mod Simulation
 pub mod Placing
@@ -48,6 +47,20 @@ pub mod Boards
 pub mod Clearing
 pub mod Polls
 pub mod Built
+-- each call is a step of the machine
 pub mod Opening
 pub mod Sending
 pub mod Committing
+pub mod Resending
+pub mod Receiving
+pub mod Releasing
+pub mod Reaching
+pub mod Taking
+pub mod Acknowledging
+pub mod Showing
+pub mod Preparing
+pub mod Voting
+pub mod Delivering
+-- runs of boards, and their law
+pub mod Simulated
+pub mod BoardsIsolation

@@ -30,4 +30,3 @@ module _ (regular : ℕ → Bool) (pref : ℕ → ℕ) (n : ℕ) (es : List Seen
       (λ (q : k < entryOf (s .own (x .home) i .start) (y .home)). inr (subst (λ z. List·Memᴰ z (snapshot es x)) (name-is regular pref n es s R I A y k m f) (on-shelf regular pref n es s R I A _ _ (snap-of regular pref n es s R I A (x .home) i (x .serial) l e) (y .home) k q)))
       (I .writers-ordered (x .home) i (y .home) k o l m (row-writes x i o l e wx) (row-writes y k o m f wy)
       (λ p q. d (λ z. record { home = p z; serial = (sym e ∙ ap (λ j. s .own j i .serial) p ∙ ap (λ j. s .own (y .home) j .serial) q ∙ f) z })))
-

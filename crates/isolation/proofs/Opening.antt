@@ -1,20 +1,20 @@
 -- The calls on an open transaction, start and settle: each is a step of the machine.
-use mathlib.Core.Path.{_≡_, refl, sym, ap, subst, _∙_}
-use mathlib.Core.Bool.{Bool, true, false, cond, _&&_, _||_, not}
+use mathlib.Core.Path.{_≡_, refl, ap}
+use mathlib.Core.Bool.{Bool, true, false}
 use mathlib.Core.Logic.{_⊎_, inl, inr, ⊎-elim}
 use mathlib.Core.List.{List, [], _∷_, _++_, List·Memᴰ·not-nil}
-use Prim.Native.Nat.{ℕ, suc, _+_, min, _≤_, _<_}
+use Prim.Native.Nat.{ℕ, _+_, min, _≤_, _<_}
 use native.Mathlib.Omega.{arith}
 use lib.Dec.{eqb, ltb, leb}
 use lib.IntN.{ℤ}
-use lib.ListN.{length, set, take}
-use mir.Val.{toZ, Fits, SFits}
+use lib.ListN.{set}
+use mir.Val.{toZ}
 use mir.ValLaws.{toZ-fits}
 use mir.Syntax.{w32}
 use Rattle.std.specs.declared.option.Option.the-variants.{None}
 use Rattle.std.specs.declared.result.Result.{Result}
 use Rattle.std.specs.declared.result.Result.the-variants.{Ok, Err}
-use Rattle.std.proofs.shelf.Tests.{cases-eq, cases-bool, eq-eqb, eqb-true, ltb-true, leb-true}
+use Rattle.std.proofs.shelf.Tests.{cases-eq, eq-eqb, ltb-true, leb-true}
 use Rattle.std.proofs.shelf.Lists.{take-more-set}
 use Rattle.std.proofs.shelf.Ways.{tells}
 use Rattle.record.specs.declared.fault.Denial.the-variants.{NoTransaction, WrongState, Unlisted, KindDiffers, FourUpdates, NoPlace, SerialsSpent}
@@ -38,14 +38,14 @@ use Rattle.isolation.specs.Events.{Event, seenAll}
 use Rattle.isolation.specs.Groups.{Group, Built, configOf}
 use Rattle.isolation.specs.Isolation.{regularIn}
 use Rattle.isolation.specs.Machine as machine
-use Rattle.isolation.specs.Machine.{opened, dead, State, Alike, Among}
+use Rattle.isolation.specs.Machine.{opened, dead, State, Among}
 use Rattle.isolation.proofs.Boards.{withTables, at-placed, at-freed, at-settled, at-started}
 use Rattle.isolation.proofs.Built.{needed, listed-near}
 use Rattle.isolation.proofs.Carried.{FitRow, fit-bare, fit-update}
 use Rattle.isolation.proofs.Effects.{alike-same}
 use Rattle.isolation.proofs.Invariant.{liveRow}
 use Rattle.isolation.proofs.Runs.{Kept}
-use Rattle.isolation.proofs.Simulation.{preferredIn, said, Near, Opened, Placed, At, Step, Steps, quiet}
+use Rattle.isolation.proofs.Simulation.{preferredIn, said, Opened, Placed, At, Step, Steps, quiet}
 use Rattle.isolation.proofs.Writers.{touches}
 
 -- what an acceptance followed
@@ -101,7 +101,6 @@ touches-push (w ∷ us) u o e = ⊎-elim
 
 module _ (g : Group) (built : Built g) (es : List Event) (s : State) (x : Board) (b : ℕ) (inside : b < g .boards) (A : At g x s b)
     (K : Kept (regularIn g) (preferredIn g) (g .boards) (seenAll es) s (Among (said es))) where
-
   pub still : Step g es s b nothing x []
   still = quiet g es s b x A
 

@@ -1,23 +1,22 @@
 -- Places and phases: what another place for a serial does to what the places say.
 use mathlib.Core.Path.{_≡_, refl, sym, ap, subst, _∙_}
-use mathlib.Core.Bool.{Bool, true, false, cond, _&&_, not}
-use mathlib.Core.Logic.{_⊎_, inl, inr, ⊎-elim}
+use mathlib.Core.Bool.{true, false, not}
+use mathlib.Core.Logic.{inl, inr, ⊎-elim}
 use mathlib.Core.List.{List, [], _∷_}
-use Prim.Native.Nat.{ℕ, suc, _+_, _≤_, _<_}
+use Prim.Native.Nat.{ℕ, _+_, _<_}
 use native.Mathlib.Numerals.{add-one}
 use native.Mathlib.Omega.{arith}
-use lib.Dec.{eqb}
-use lib.ListN.{length, getD, set}
-use Rattle.std.specs.declared.option.Option.the-variants.{Some, None}
+use lib.ListN.{length, set}
+use Rattle.std.specs.declared.option.Option.the-variants.{None}
 use Rattle.std.proofs.shelf.Tests.{cases-eq, cases-bool, eq-eqb, ne-eqb, eqb-true, and-parts, and-from}
 use Rattle.std.proofs.shelf.Ways.{tells}
 use Rattle.record.specs.declared.row.Row.{Row}
 use Rattle.tables.specs.Places.{isFree, hasSerial, firstAt, placeOf, withPlace}
 use Rattle.tables.specs.declared.place.Place.{Place}
 use Rattle.tables.specs.declared.place.Place.the-variants.{Free, Open, Waiting, Committed, Aborted}
-use Rattle.tables.proofs.Serials.{lacks, Distinct, one-serial, lacks-free, put-same, put-other, freed-none}
+use Rattle.tables.proofs.Serials.{lacks, Distinct, one-serial, put-same, put-other, freed-none}
 use Rattle.isolation.specs.Groups.{Group}
-use Rattle.isolation.specs.Machine.{Phase, unknown, opened, waits, put}
+use Rattle.isolation.specs.Machine.{Phase, unknown, opened, put}
 use Rattle.isolation.proofs.Invariant.{liveRow}
 use Rattle.isolation.proofs.Simulation.{Placed}
 
@@ -65,8 +64,8 @@ free-lacks : (ps : List Place) (t : ℕ) → placeOf ps t ≡ Free → lacks t p
 free-lacks [] t e = refl
 free-lacks (p ∷ ps) t e =
     elim (cases-bool (hasSerial t p)) [
-      inl here ↦ let q : p ≡ Free = sym (here-is p ps t here) ∙ e in let z : false ≡ true = ap (hasSerial t) (sym q) ∙ here in cc |
-      inr later ↦ simp later (free-lacks ps t (sym (later-is p ps t later) ∙ e))
+      | inl here ↦ let q : p ≡ Free = sym (here-is p ps t here) ∙ e in let z : false ≡ true = ap (hasSerial t) (sym q) ∙ here in cc
+      | inr later ↦ simp later (free-lacks ps t (sym (later-is p ps t later) ∙ e))
     ]
 
 abbrev into : List Place → Row → List Place
@@ -87,8 +86,8 @@ module _ (r : Row) where
   taken-place (p ∷ ps) l h =
       let both = and-parts (not (hasSerial (r .serial) p)) (lacks (r .serial) ps) l in
       elim (cases-bool (isFree p)) [
-        inl e ↦ rw (into-here p ps r e) (here-is (Open r) ps (r .serial) (eq-eqb (r .serial) (r .serial) refl)) |
-        inr f ↦ rw (into-later p ps r f) (later-is p (into ps r) (r .serial) (grind (arith, tells, both .0)) ∙ taken-place ps (both .1) (room-later p ps f h))
+        | inl e ↦ rw (into-here p ps r e) (here-is (Open r) ps (r .serial) (eq-eqb (r .serial) (r .serial) refl))
+        | inr f ↦ rw (into-later p ps r f) (later-is p (into ps r) (r .serial) (grind (arith, tells, both .0)) ∙ taken-place ps (both .1) (room-later p ps f h))
       ]
 
   kept-place : (ps : List Place) (u : ℕ) → (u ≡ r .serial → ⊥) → placeOf (into ps r) u ≡ placeOf ps u
@@ -96,15 +95,15 @@ module _ (r : Row) where
   kept-place (p ∷ ps) u d =
       let bare : hasSerial u (Open r) ≡ false = ne-eqb (r .serial) u (λ e. d (sym e)) in
       elim (cases-bool (isFree p)) [
-        inl e ↦
-          let q : hasSerial u p ≡ false = ap (hasSerial u) (free-is p e) in
-          rw (into-here p ps r e) (later-is (Open r) ps u bare ∙ sym (later-is p ps u q)) |
-        inr f ↦
-          rw (into-later p ps r f)
-          (elim (cases-bool (hasSerial u p)) [
-            inl has ↦ here-is p (into ps r) u has ∙ sym (here-is p ps u has) |
-            inr not′ ↦ later-is p (into ps r) u not′ ∙ (kept-place ps u d ∙ sym (later-is p ps u not′))
-          ])
+        | inl e ↦
+            let q : hasSerial u p ≡ false = ap (hasSerial u) (free-is p e) in
+            rw (into-here p ps r e) (later-is (Open r) ps u bare ∙ sym (later-is p ps u q))
+        | inr f ↦
+            rw (into-later p ps r f)
+            (elim (cases-bool (hasSerial u p)) [
+              | inl has ↦ here-is p (into ps r) u has ∙ sym (here-is p ps u has)
+              | inr not′ ↦ later-is p (into ps r) u not′ ∙ (kept-place ps u d ∙ sym (later-is p ps u not′))
+            ])
       ]
 
   lacks-into : (ps : List Place) (u : ℕ) → (u ≡ r .serial → ⊥) → lacks u ps ≡ true → lacks u (into ps r) ≡ true
@@ -113,8 +112,8 @@ module _ (r : Row) where
       let both = and-parts (not (hasSerial u p)) (lacks u ps) l in
       let bare : hasSerial u (Open r) ≡ false = ne-eqb (r .serial) u (λ e. d (sym e)) in
       elim (cases-bool (isFree p)) [
-        inl e ↦ rw (into-here p ps r e) (simp bare (both .1)) |
-        inr f ↦ rw (into-later p ps r f) (and-from _ _ (both .0) (lacks-into ps u d (both .1)))
+        | inl e ↦ rw (into-here p ps r e) (simp bare (both .1))
+        | inr f ↦ rw (into-later p ps r f) (and-from _ _ (both .0) (lacks-into ps u d (both .1)))
       ]
 
   distinct-into : (ps : List Place) → lacks (r .serial) ps ≡ true → Distinct ps → Distinct (into ps r)
@@ -122,10 +121,11 @@ module _ (r : Row) where
   distinct-into (p ∷ ps) l D =
       let both = and-parts (not (hasSerial (r .serial) p)) (lacks (r .serial) ps) l in
       elim (cases-bool (isFree p)) [
-        inl e ↦ rw (into-here p ps r e) ((λ u has. ap (λ v. lacks v ps) (sym (eqb-true (r .serial) u has)) ∙ both .1), D .1) |
-        inr f ↦ rw (into-later p ps r f) (
+        | inl e ↦ rw (into-here p ps r e) ((λ u has. ap (λ v. lacks v ps) (sym (eqb-true (r .serial) u has)) ∙ both .1), D .1)
+        | inr f ↦ rw (into-later p ps r f) (
           (λ u has. lacks-into ps u (λ e. let z : hasSerial (r .serial) p ≡ true = ap (λ v. hasSerial v p) (sym e) ∙ has in let y : not (hasSerial (r .serial) p) ≡ true = both .0 in grind (arith, tells)) (D .0 u has)),
-          distinct-into ps (both .1) (D .1))
+          distinct-into ps (both .1) (D .1),
+        )
       ]
 
 pub nothing-yet : (g : Group) (b t : ℕ) (p : Place) → Placed g b t p unknown → p ≡ Free

@@ -1,13 +1,12 @@
 -- Who is polled: each other board that is preferred for a written regular object, as sums of marks.
 use mathlib.Core.Path.{_≡_, refl, sym, ap, subst, _∙_}
-use mathlib.Core.Bool.{Bool, true, false, cond, _&&_, _||_, not}
-use mathlib.Core.Logic.{_⊎_, inl, inr, ⊎-elim, _≢_}
+use mathlib.Core.Bool.{Bool, true, false, cond, _&&_, not}
+use mathlib.Core.Logic.{inl, inr, ⊎-elim, _≢_}
 use mathlib.Core.List.{List, [], _∷_}
 use Prim.Native.Nat.{ℕ, zero, suc, _≤_, _<_}
 use native.Mathlib.Omega.{arith}
-use lib.Bits.{bitAnd, bitOr, and-zero-r}
+use lib.Bits.{and-zero-r}
 use lib.Dec.{eqb, ltb}
-use lib.ListN.{getD}
 use Rattle.std.specs.Iters.{folded}
 use Rattle.std.proofs.shelf.Tests.{cases-eq, cases-lt, cases-bool, and-parts, and-from, ne-eqb, eq-eqb, ltb-true, not-from-false}
 use Rattle.std.proofs.shelf.Lists.{getD-past}
@@ -15,7 +14,7 @@ use Rattle.std.proofs.shelf.Ways.{tells}
 use Rattle.record.specs.declared.row.Row.{Row}
 use Rattle.record.specs.declared.row.Update.{Update}
 use Rattle.record.specs.Rows.{updatesOf}
-use Rattle.tables.specs.BoardSets.{siteMarks, markOf, isIn, withBoard}
+use Rattle.tables.specs.BoardSets.{siteMarks, isIn, withBoard}
 use Rattle.tables.specs.Objects.{isRegular, preferredOf, polledFor}
 use Rattle.tables.specs.Steps.{polledWith}
 use Rattle.tables.specs.declared.config.Config.{Config}
@@ -85,11 +84,15 @@ record Polls (c : Config) (us : List Update) (set end : ℕ) : Type 0 where
 module _ (c : Config) (o : ℕ) (set : ℕ) (low : set < 256) (near : preferredOf c o < 8) where
   step-low : polledWith c set o < 256
   step-low = elim (cases-bool (isRegular c o && not (eqb (preferredOf c o) (c .own)))) [
-    inl t ↦ rw t (with-small set (preferredOf c o) low near) | inr f ↦ rw f low ]
+    | inl t ↦ rw t (with-small set (preferredOf c o) low near)
+    | inr f ↦ rw f low
+  ]
 
   step-on : (q : ℕ) → isIn set q ≡ true → isIn (polledWith c set o) q ≡ true
   step-on q e = elim (cases-bool (isRegular c o && not (eqb (preferredOf c o) (c .own)))) [
-    inl t ↦ rw t (in-with set (preferredOf c o) q low near ∙ with-true (eqb q (preferredOf c o)) e) | inr f ↦ rw f e ]
+    | inl t ↦ rw t (in-with set (preferredOf c o) q low near ∙ with-true (eqb q (preferredOf c o)) e)
+    | inr f ↦ rw f e
+  ]
     where
       with-true : (v : Bool) → isIn set q ≡ true → cond v true (isIn set q) ≡ true
       with-true true e = refl
@@ -109,10 +112,10 @@ polls c (u ∷ us) set low near =
     record {
       holds-on = λ q e. rest .holds-on q (step-on c (u .object) set low here q e);
       holds-all = λ o t r d. ⊎-elim
-        (λ (e : u .object ≡ o). rest .holds-on (preferredOf c o) (subst (λ v. isIn (polledWith c set (u .object)) (preferredOf c v) ≡ true) e
+          (λ (e : u .object ≡ o). rest .holds-on (preferredOf c o) (subst (λ v. isIn (polledWith c set (u .object)) (preferredOf c v) ≡ true) e
           (step-new c (u .object) set low here (ap (isRegular c) e ∙ r) (λ z. d (ap (preferredOf c) (sym e) ∙ z)))))
-        (λ (e : u .object ≡ o → ⊥). rest .holds-all o (grind (arith, tells)) r d)
-        (cases-eq (u .object) o);
+          (λ (e : u .object ≡ o → ⊥). rest .holds-all o (grind (arith, tells)) r d)
+          (cases-eq (u .object) o);
     }
 
 -- each other board that is preferred for a written regular object is polled

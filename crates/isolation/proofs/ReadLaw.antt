@@ -58,19 +58,19 @@ module _ (regular : ℕ → Bool) (pref : ℕ → ℕ) (n : ℕ) (es : List Seen
 
   -- a fold over what is found is one over what is visible, if it is over the rows and over the own updates
   found-fold : {V : Type 0} (f : V → Update → V) (v : V) → folded (by-row f) v seen ≡ folded f v (allChanges es (snapshot es (transaction b t)))
-    → ((w : V) → folded f w (changes es (transaction b t)) ≡ folded f w (updatesOf r)) → folded f v (found (s .log b) r) ≡ folded f v (visible es (transaction b t))
+      → ((w : V) → folded f w (changes es (transaction b t)) ≡ folded f w (updatesOf r)) → folded f v (found (s .log b) r) ≡ folded f v (visible es (transaction b t))
   found-fold f v rows own =
-    let past-updates = allChanges es (snapshot es (transaction b t)) in
-    folded-append f v (joined updatesOf seen) (updatesOf r) ∙ ap (λ x. folded f x (updatesOf r)) (folded-joined f updatesOf v seen ∙ rows)
-    ∙ sym (own (folded f v past-updates)) ∙ sym (folded-append f v past-updates (changes es (transaction b t)))
+      let past-updates = allChanges es (snapshot es (transaction b t)) in
+      folded-append f v (joined updatesOf seen) (updatesOf r) ∙ ap (λ x. folded f x (updatesOf r)) (folded-joined f updatesOf v seen ∙ rows)
+      ∙ sym (own (folded f v past-updates)) ∙ sym (folded-append f v past-updates (changes es (transaction b t)))
 
   pub reads : (o : ℕ) → regular o ≡ true → lastPut o (found (s .log b) r) ≡ lastPut o (visible es (transaction b t))
   reads o q = found-fold (putBy o) None
-    (same-puts regular pref n es s R I A seen-grown (snap .grown) room o q ∙ sym (shelf-puts regular pref n es s R I A (entryOf (r .start)) (snapshot es (transaction b t)) snap room o q))
-    (alike-puts regular (changes es (transaction b t)) (updatesOf r) own-updates o q)
+      (same-puts regular pref n es s R I A seen-grown (snap .grown) room o q ∙ sym (shelf-puts regular pref n es s R I A (entryOf (r .start)) (snapshot es (transaction b t)) snap room o q))
+      (alike-puts regular (changes es (transaction b t)) (updatesOf r) own-updates o q)
 
   pub looks : {V : Type 0} (step : V → ℤ → V) → EitherOrder step → (o e : ℕ) → regular o ≡ false → (v : V)
-    → valueAfter step o e v (found (s .log b) r) ≡ valueAfter step o e v (visible es (transaction b t))
+      → valueAfter step o e v (found (s .log b) r) ≡ valueAfter step o e v (visible es (transaction b t))
   looks step order o e q v = found-fold (updated step o e) v
-    (same-merges regular pref n es s R I A seen-grown (snap .grown) step order o e v ∙ sym (shelf-merges regular pref n es s R I A (entryOf (r .start)) (snapshot es (transaction b t)) snap room step o e q v))
-    (alike-value regular (changes es (transaction b t)) (updatesOf r) own-updates step o e q)
+      (same-merges regular pref n es s R I A seen-grown (snap .grown) step order o e v ∙ sym (shelf-merges regular pref n es s R I A (entryOf (r .start)) (snapshot es (transaction b t)) snap room step o e q v))
+      (alike-value regular (changes es (transaction b t)) (updatesOf r) own-updates step o e q)

@@ -1,28 +1,27 @@
 -- Records to other boards: what they tell, and what they say.
 use mathlib.Core.Path.{_≡_, refl, sym, ap, subst, _∙_}
-use mathlib.Core.Bool.{Bool, true, false, cond, _&&_, not}
-use mathlib.Core.Logic.{_⊎_, inl, inr, ⊎-elim}
-use mathlib.Core.List.{List, [], _∷_, map, List·Memᴰ, Memᴰ·of-map}
-use Prim.Native.Nat.{ℕ, zero, suc, _+_, _≤_, _<_}
+use mathlib.Core.Bool.{Bool, true, false, _&&_, not}
+use mathlib.Core.Logic.{_⊎_, inl, inr}
+use mathlib.Core.List.{List, [], _∷_, map, List·Memᴰ, List·Memᴰ·eq-of-singleton, Memᴰ·of-map}
+use Prim.Native.Nat.{ℕ, zero, suc, _+_, _≤_}
 use native.Mathlib.Omega.{arith}
 use lib.Dec.{eqb}
 use Rattle.std.specs.Iters.{counting}
 use Rattle.std.specs.shelf.Lists.{kept-by}
-use Rattle.std.proofs.shelf.Tests.{cases-bool, eqb-true, ne-eqb}
-use Rattle.std.proofs.shelf.Ways.{tells}
+use Rattle.std.proofs.shelf.Tests.{eqb-true, ne-eqb}
 use Rattle.record.specs.declared.kind.RecordKind.the-variants.{Propagate}
 use Rattle.record.specs.declared.message.Record.{Record}
 use Rattle.record.specs.declared.row.Row.{Row}
+use Rattle.record.specs.declared.row.Update.{Update}
 use Rattle.record.specs.Clocks.{covered}
 use Rattle.record.specs.Rows.{recordOf, rowOf}
 use Rattle.tables.specs.declared.config.Config.{Config}
 use Rattle.tables.specs.declared.tables.Tables.{Tables}
 use Rattle.board.specs.Commits.{propagates}
-use Rattle.board.specs.Records.{others, toOthers}
 use Rattle.board.specs.Resends.{reminder}
 use Rattle.isolation.specs.Books.{Told, propagated, nothing}
 use Rattle.isolation.specs.Events.{firstPropagate}
-use Rattle.isolation.specs.Machine.{Message}
+use Rattle.isolation.specs.Machine.{Message, State, MayWrite, Among}
 use Rattle.isolation.proofs.Carried.{FitRow}
 use Rattle.isolation.proofs.Simulation.{meaning}
 use Rattle.isolation.proofs.Written.{Copies}
@@ -36,6 +35,13 @@ copies to v same qs m i =
 
 pub fit-copies : (to : ℕ → Record) → ((q : ℕ) → FitRow (rowOf (to q))) → (qs : List ℕ) (m : Record) → List·Memᴰ m (map to qs) → FitRow (rowOf m)
 fit-copies to fit qs m i = let (q, k, f) = Memᴰ·of-map to qs i in subst (λ (v : Record). FitRow (rowOf v)) f (fit q)
+
+-- one record
+pub may-one : (Writes : List Update → ℕ → Type 0) (pref : ℕ → ℕ) (s : State) (R : Message → Type 0) (y : Record) → MayWrite Writes pref s R (meaning y) → (m : Message) → Among (map meaning (y ∷ [])) m → MayWrite Writes pref s R m
+may-one Writes pref s R y may m i = subst (MayWrite Writes pref s R) (sym (List·Memᴰ·eq-of-singleton i)) may
+
+pub fit-one : (y : Record) → FitRow (rowOf y) → (m : Record) → List·Memᴰ m (y ∷ []) → FitRow (rowOf m)
+fit-one y F m i = subst (λ (v : Record). FitRow (rowOf v)) (sym (List·Memᴰ·eq-of-singleton i)) F
 
 -- records of which none is a PROPAGATE
 pub none-propagate : (to : ℕ → Record) (w : Told) → ((q : ℕ) (v : Told) → firstPropagate (to q ∷ []) v ≡ v) → (qs : List ℕ) → firstPropagate (map to qs) w ≡ w

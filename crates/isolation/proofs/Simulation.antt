@@ -1,8 +1,8 @@
 -- The simulation: how the boards of a run and a state of the machine go together.
-use mathlib.Core.Path.{_≡_, refl, sym, ap, subst, _∙_}
+use mathlib.Core.Path.{_≡_, refl, sym, subst, _∙_}
 use mathlib.Core.Bool.{Bool, true, cond}
-use mathlib.Core.Logic.{_⊎_, inl, inr, ⊎-elim, _≢_}
-use mathlib.Core.List.{List, [], _∷_, _++_, map, List·Memᴰ, List·Memᴰ·append-cases, List·Memᴰ·not-nil}
+use mathlib.Core.Logic.{⊎-elim}
+use mathlib.Core.List.{List, [], _∷_, map, List·Memᴰ, List·Memᴰ·append-cases, List·Memᴰ·not-nil}
 use Prim.Native.Nat.{ℕ, _≤_, _<_}
 use lib.Dec.{eqb}
 use lib.ListN.{length}
@@ -26,14 +26,13 @@ use Rattle.tables.proofs.Serials.{Distinct}
 use Rattle.board.specs.Effects.{State as Board}
 use Rattle.isolation.specs.Books.{nothing, Told, Seen}
 use Rattle.isolation.specs.Laws.{Writes}
-use Rattle.isolation.specs.Machine.{Phase, unknown, opened, waits, Holder, free, held, Message, prepare, voteYes, voteNo, abort, propagate, ack, durable, State, MayWrite, Move, rest, silent, Among, then, Run}
+use Rattle.isolation.specs.Machine.{Phase, unknown, opened, waits, Holder, free, held, Message, prepare, voteYes, voteNo, abort, propagate, ack, durable, State, MayWrite, Move, rest, silent, Among, Onward, then, Run, fresh}
 use Rattle.isolation.specs.Calls.{Call, does}
 use Rattle.isolation.specs.Events.{Event, seenAll, writtenBy, toldBy}
-use Rattle.isolation.specs.Groups.{Group, configOf, Built, withBoard}
+use Rattle.isolation.specs.Groups.{Group, configOf, withBoard}
 use Rattle.isolation.specs.Isolation.{regularIn}
 use Rattle.isolation.proofs.Invariant.{called, liveRow}
 use Rattle.isolation.proofs.Elsewhere.{SameBoard, elsewhere}
-use Rattle.isolation.proofs.Runs.{Kept, kept}
 use Rattle.isolation.proofs.Writers.{touches}
 use Rattle.isolation.proofs.Carried.{FitClock, FitRow}
 
@@ -143,21 +142,22 @@ frame g x s s′ b S A = record {
 
 module _ (g : Group) (es : List Event) (bs : ℕ → Board) (S : Sim g es bs) (b : ℕ) (e : Event) (y : Board)
     (T : Step g es (S .s) b (toldBy (e .call) (e .answer) (e .written)) y (e .written)) (here : e .board ≡ b) where
-  -- the run of the machine goes on
-  pub on : Run (regularIn g) (preferredIn g) (g .boards) (seenAll (e ∷ es)) (T .s′) (said (e ∷ es))
-  on = rw (here, map-append meaning (e .written) (writtenBy es)) (then (S .run) (T .move) (map meaning (e .written)) (T .may))
+  -- a run of the machine goes on
+  pub on : (es₀ : List Seen) (s₀ : State) (R₀ : List Message) → Onward (regularIn g) (preferredIn g) (g .boards) es₀ s₀ R₀ (seenAll es) (S .s) (said es)
+      → Onward (regularIn g) (preferredIn g) (g .boards) es₀ s₀ R₀ (seenAll (e ∷ es)) (T .s′) (said (e ∷ es))
+  on es₀ s₀ R₀ run = rw (here, map-append meaning (e .written) (writtenBy es)) (then run (T .move) (map meaning (e .written)) (T .may))
 
-  others-at : (p : ℕ) → p < g .boards → At g (withBoard bs b y p) (T .s′) p
+  pub others-at : (p : ℕ) → p < g .boards → At g (withBoard bs b y p) (T .s′) p
   others-at p h = ⊎-elim
       (λ (q : p ≡ b). rw (q, eq-eqb b b refl) (T .at))
       (λ (q : p ≡ b → ⊥). rw (ne-eqb p b q) (frame g (bs p) (S .s) (T .s′) p (elsewhere (regularIn g) (preferredIn g) (g .boards) (T .move) p q) (S .at p h)))
       (cases-eq p b)
 
-  all-fit : (m : Record) → List·Memᴰ m (writtenBy (e ∷ es)) → FitRow (rowOf m)
+  pub all-fit : (m : Record) → List·Memᴰ m (writtenBy (e ∷ es)) → FitRow (rowOf m)
   all-fit m i = ⊎-elim (λ (k : List·Memᴰ m (e .written)). T .fits m k) (λ (k : List·Memᴰ m (writtenBy es)). S .fits m k) (List·Memᴰ·append-cases (e .written) i)
 
-  pub stepped : Sim g (e ∷ es) (withBoard bs b y)
-  stepped = record { s = T .s′; run = on; at = others-at; fits = all-fit }
+  abbrev pub stepped : Sim g (e ∷ es) (withBoard bs b y)
+  stepped = record { s = T .s′; run = on [] fresh [] (S .run); at = others-at; fits = all-fit }
 
 -- nothing changes and nothing is told
 pub quiet : (g : Group) (es : List Event) (s : State) (b : ℕ) (x : Board) → At g x s b → Step g es s b nothing x []
