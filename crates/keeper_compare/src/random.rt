@@ -22,7 +22,7 @@ impl Random {
     }
 
     /// A number from `least` to `most`.
-    pub fn within(&mut self, least: u16, most: u16) -> u16
+    pub(crate) fn within(&mut self, least: u16, most: u16) -> u16
         requires { ⌜ least ≤ most ⌝ }
         ensures low { λ r. ⌜ least ≤ r ⌝ }
         ensures high { λ r. ⌜ r ≤ most ⌝ }
