@@ -255,7 +255,6 @@ module _ (c : Config) (h s : ℕ) where
   locks-from : (ls : List Lock) (us : List Update) (o : ℕ) → wanted c ls us ≤ freeLocks ls → lockOf (withLocks c ls h s us) o ≡ cond (isOurs c o && (writes us o && isUnlocked ls o)) (Some (h, s)) (lockOf ls o)
   locks-from ls [] o n = sym (cond-false _ _ _ (and-right (isOurs c o) false refl))
   locks-from ls (u ∷ us) o n =
-      let x : ℕ = u .object in
       elim (cases-bool (isOurs c (u .object) && isUnlocked ls (u .object))) [
         | inl t ↦
             let p = and-parts (isOurs c (u .object)) (isUnlocked ls (u .object)) t in
