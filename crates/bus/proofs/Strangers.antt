@@ -1,6 +1,7 @@
 -- The first part of an update that is not one of the group, one update at a time.
 use Rattle.std.proofs.Common.{◌≡◌, ℕ, zero, suc, ◌+◌, ◌<◌, ◌≤◌, List, [], ◌∷◌, length, get_or, drop, None, refl, ◌∙◌, arith, length-take}
 use Rattle.std.proofs.lemmas.List.{at_drop_more, at_drop_all}
+use Rattle.std.proofs.lemmas.Bool.Decides.{nat_tests}
 use Rattle.record.specs.Rows.{no_update, updates_of}
 use Rattle.record.specs.Rules.{first, clock_rules}
 use Rattle.record.specs.declared.row.Row.{Row}
@@ -25,4 +26,4 @@ few_updates r = simp length-take (omega arith)
 pub strangers_clock : (place : ℕ) (es : List ℕ) → first (stranger_rules place es) ≡ first (clock_rules 0 place es)
 strangers_clock place [] = refl
 strangers_clock place (zero ∷ es) = strangers_clock (place + 2) es
-strangers_clock place (suc e ∷ es) = refl
+strangers_clock place (suc e ∷ es) = grind (arith, nat_tests)

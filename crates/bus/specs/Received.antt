@@ -24,7 +24,7 @@ stranger_rules place (e ∷ es) = (place, (e == 0)) ∷ stranger_rules (place + 
 abbrev pub part_rules : Config → ℕ → Update → List Rule
 part_rules c place u = (place, is_listed c u.object) ∷ (place + 2, not (is_regular c u.object) || u.element == 0) ∷ []
 
-abbrev update_rules : Config → ℕ → List Update → List Rule
+abbrev pub update_rules : Config → ℕ → List Update → List Rule
 update_rules c place [] = []
 update_rules c place (u ∷ us) =
     (place, is_listed c u.object) ∷ (place + 2, not (is_regular c u.object) || u.element == 0) ∷ update_rules c (place + 8) us

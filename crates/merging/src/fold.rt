@@ -8,7 +8,7 @@ use record::Update;
 
 /// The value stepped by the update, if that is of this element of this object.
 fn step_by<M: MergingKind>(value: M::Value, update: &Update, object: u16, element: u16) -> M::Value
-    ensures answer { result ≡ updated stepped object element value update.now }
+    ensures answer { result ≡ updated M.stepped object element value update.now }
 {
     if update.object == object && update.element == element {
         M::step(value, update.operand)
@@ -24,8 +24,8 @@ fn step_through<M: MergingKind>(
     object: u16,
     element: u16,
 ) -> M::Value
-    ensures answer { result ≡ value_after stepped object element value updates.now }
-    ensures reordered { (others : List Update) → IsPermutation updates.now others → value_after stepped object element value others ≡ result }
+    ensures answer { result ≡ value_after M.stepped object element value updates.now }
+    ensures reordered { (others : List Update) → IsPermutation updates.now others → value_after M.stepped object element value others ≡ result }
 {
     for update in updates {
         value = step_by::<M>(value, update, object, element);
@@ -41,8 +41,8 @@ pub fn merged<M: MergingKind>(
     object: u16,
     element: u16,
 ) -> M::Value
-    ensures answer { result ≡ value_after stepped object element value updates.now }
-    ensures reordered { (others : List Update) → IsPermutation updates.now others → value_after stepped object element value others ≡ result }
+    ensures answer { result ≡ value_after M.stepped object element value updates.now }
+    ensures reordered { (others : List Update) → IsPermutation updates.now others → value_after M.stepped object element value others ≡ result }
 {
     step_through::<M>(value, updates, object, element)
 }

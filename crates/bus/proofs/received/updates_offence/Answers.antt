@@ -5,8 +5,8 @@ use Rattle.bus.proofs.received.updates_offence.Goals as goal
 pub update_offence-requires : goal.update_offence-requires
 update_offence-requires c = omega (arith, few_updates c.args.row.now, ap length c.updates-update-items.ensures)
 
-pub overflow-add-place : goal.overflow-add-place
-overflow-add-place c = omega (arith, few_updates c.args.row.now, ap length c.updates-update-items.ensures)
+pub overflow_add-place : goal.overflow_add-place
+overflow_add-place c = omega (arith, few_updates c.args.row.now, ap length c.updates-update-items.ensures)
 
 pub returns-in-Some : goal.returns-in-Some
 returns-in-Some c = search (rules, update_next)

@@ -9,7 +9,7 @@ loop-i-preserved c =
     let f : ℕ → ℕ = byte_at c.args.text.now in
     let i : ℕ = c.loop-i.i in
     let made : List ℕ = map f (range_with_len 0 i) in
-    c.in-ok-push.ensures.items
+    c.in_ok-push.ensures.items
     ∙ ap (λ v. v ++ c.byte.result ∷ []) c.loop-i.invariant
     ∙ ap (λ b. made ++ b ∷ []) c.byte.ensures
     ∙ sym (map-range_with_len_more f 0 i i (omega arith))

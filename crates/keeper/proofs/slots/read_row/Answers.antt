@@ -4,14 +4,14 @@ use Rattle.keeper.specs.Areas.{slot_row, area_rows, area_within}
 use Rattle.keeper.proofs.AreaLog.{row_is}
 use Rattle.keeper.proofs.slots.read_row.Goals as goal
 
-pub overflow-mul-start : goal.overflow-mul-start
-overflow-mul-start c = search (rules, area_within)
+pub overflow_mul-start : goal.overflow_mul-start
+overflow_mul-start c = search (rules, area_within)
 
-pub overflow-add-start : goal.overflow-add-start
-overflow-add-start c = search (rules, area_within)
+pub overflow_add-start : goal.overflow_add-start
+overflow_add-start c = search (rules, area_within)
 
-pub slice-bounds-slot_row-end : goal.slice-bounds-slot_row-end
-slice-bounds-slot_row-end c = search (rules, area_within)
+pub slice_bounds-slot_row-end : goal.slice_bounds-slot_row-end
+slice_bounds-slot_row-end c = search (rules, area_within)
 
 pub returns-then-place-count_used : goal.returns-then-place-count_used
 returns-then-place-count_used c =

@@ -3,8 +3,8 @@ use Rattle.std.proofs.lemmas.List.{get_or-take, get_or_past, get_or_read, length
 use Rattle.keeper.specs.Tables.{table_within}
 use Rattle.keeper.proofs.table.read_row.Goals as goal
 
-pub offset-bounds-rows-place : goal.offset-bounds-rows-place
-offset-bounds-rows-place c = search (rules, table_within)
+pub offset_bounds-rows-place : goal.offset_bounds-rows-place
+offset_bounds-rows-place c = search (rules, table_within)
 
 pub bounds-rows-place : goal.bounds-rows-place
 bounds-rows-place c = search (rules, table_within)
