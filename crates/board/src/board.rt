@@ -20,7 +20,7 @@ pub struct Board<K: LogKeeper> {
 impl<K: LogKeeper> Board<K> {
     /// Whether a board can be built: first the keeper is asked, whose memory must be fit and whose log must be empty, and then the numbers.
     pub fn check(log: &K, config: &Config, first_serial: u32) -> Result<(), Fault>
-        ensures { result ≡ build_answer (ready log.now) (rows log.now) config.now first_serial }
+        ensures { result ≡ build_answer (K.ready log.now) (K.rows log.now) config.now first_serial }
     {
         if log.fit() && log.count() == 0 {
             config.check(first_serial)
@@ -31,7 +31,7 @@ impl<K: LogKeeper> Board<K> {
 
     /// A fresh board, from what was checked.
     pub fn make(log: K, config: &Config, first_serial: u32) -> Board<K>
-        requires { build_answer (ready log) (rows log) config.now first_serial ≡ Ok tt }
+        requires { build_answer (K.ready log) (K.rows log) config.now first_serial ≡ Ok tt }
         ensures log { result.log ≡ log }
         ensures tables { result.tables ≡ fresh config.now first_serial }
     {

@@ -20,11 +20,11 @@ impl<K: LogKeeper> Board<K> {
         serial: u32,
         out: &mut [u8],
     ) -> Result<(u8, u16, usize), Fault>
-        ensures answer { result ≡ (commit (state self.old.tables (rows self.old.log) (capacity self.old.log)) home serial (length out.old)).answer }
-        ensures tables { self.new.tables ≡ (commit (state self.old.tables (rows self.old.log) (capacity self.old.log)) home serial (length out.old)).tables }
-        ensures rows { rows self.new.log ≡ (commit (state self.old.tables (rows self.old.log) (capacity self.old.log)) home serial (length out.old)).rows }
-        ensures capacity { capacity self.new.log ≡ capacity self.old.log }
-        ensures out { out.new ≡ outgoing out.old (commit (state self.old.tables (rows self.old.log) (capacity self.old.log)) home serial (length out.old)).written }
+        ensures answer { result ≡ (commit (state self.old.tables (K.rows self.old.log) (K.capacity self.old.log)) home serial (length out.old)).answer }
+        ensures tables { self.new.tables ≡ (commit (state self.old.tables (K.rows self.old.log) (K.capacity self.old.log)) home serial (length out.old)).tables }
+        ensures rows { K.rows self.new.log ≡ (commit (state self.old.tables (K.rows self.old.log) (K.capacity self.old.log)) home serial (length out.old)).rows }
+        ensures capacity { K.capacity self.new.log ≡ K.capacity self.old.log }
+        ensures out { out.new ≡ outgoing out.old (commit (state self.old.tables (K.rows self.old.log) (K.capacity self.old.log)) home serial (length out.old)).written }
     {
         let row = self.tables.open_row(home, serial)?;
         outbox::fit(out)?;
@@ -39,11 +39,11 @@ impl<K: LogKeeper> Board<K> {
 
     /// Commits an open transaction, or asks the boards that must agree.
     pub fn commit(&mut self, of: OpenTransaction, out: &mut [u8]) -> CommitAnswer
-        ensures answer { result ≡ commit_answer of (commit (state self.old.tables (rows self.old.log) (capacity self.old.log)) of.home of.serial (length out.old)).answer }
-        ensures tables { self.new.tables ≡ (commit (state self.old.tables (rows self.old.log) (capacity self.old.log)) of.home of.serial (length out.old)).tables }
-        ensures rows { rows self.new.log ≡ (commit (state self.old.tables (rows self.old.log) (capacity self.old.log)) of.home of.serial (length out.old)).rows }
-        ensures capacity { capacity self.new.log ≡ capacity self.old.log }
-        ensures out { out.new ≡ outgoing out.old (commit (state self.old.tables (rows self.old.log) (capacity self.old.log)) of.home of.serial (length out.old)).written }
+        ensures answer { result ≡ commit_answer of (commit (state self.old.tables (K.rows self.old.log) (K.capacity self.old.log)) of.home of.serial (length out.old)).answer }
+        ensures tables { self.new.tables ≡ (commit (state self.old.tables (K.rows self.old.log) (K.capacity self.old.log)) of.home of.serial (length out.old)).tables }
+        ensures rows { K.rows self.new.log ≡ (commit (state self.old.tables (K.rows self.old.log) (K.capacity self.old.log)) of.home of.serial (length out.old)).rows }
+        ensures capacity { K.capacity self.new.log ≡ K.capacity self.old.log }
+        ensures out { out.new ≡ outgoing out.old (commit (state self.old.tables (K.rows self.old.log) (K.capacity self.old.log)) of.home of.serial (length out.old)).written }
     {
         match self.commit_named(of.home, of.serial, out) {
             Ok(answer) => {

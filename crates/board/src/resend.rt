@@ -11,8 +11,8 @@ use record::Fault;
 impl<K: LogKeeper> Board<K> {
     /// Writes again what others may lack of the transaction with this serial, and answers how many records that are. Nothing else changes.
     pub fn resend(&self, serial: u32, out: &mut [u8]) -> Result<usize, Fault>
-        ensures answer { result ≡ (resend (state self.now.tables (rows self.now.log) (capacity self.now.log)) serial (length out.old)).answer }
-        ensures out { out.new ≡ outgoing out.old (resend (state self.now.tables (rows self.now.log) (capacity self.now.log)) serial (length out.old)).written }
+        ensures answer { result ≡ (resend (state self.now.tables (K.rows self.now.log) (K.capacity self.now.log)) serial (length out.old)).answer }
+        ensures out { out.new ≡ outgoing out.old (resend (state self.now.tables (K.rows self.now.log) (K.capacity self.now.log)) serial (length out.old)).written }
     {
         let sending = protocol::due_for(&self.log, &self.tables, serial)?;
         outbox::fit(out)?;

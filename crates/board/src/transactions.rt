@@ -15,10 +15,10 @@ use tables::outcome;
 impl<K: LogKeeper> Board<K> {
     /// Starts a transaction that sees what the board has committed.
     pub fn start(&mut self) -> Result<OpenTransaction, Fault>
-        ensures answer { result ≡ token_from self.old.tables.config.own (start (state self.old.tables (rows self.old.log) (capacity self.old.log))).answer }
-        ensures tables { self.new.tables ≡ (start (state self.old.tables (rows self.old.log) (capacity self.old.log))).tables }
-        ensures rows { rows self.new.log ≡ rows self.old.log }
-        ensures capacity { capacity self.new.log ≡ capacity self.old.log }
+        ensures answer { result ≡ token_from self.old.tables.config.own (start (state self.old.tables (K.rows self.old.log) (K.capacity self.old.log))).answer }
+        ensures tables { self.new.tables ≡ (start (state self.old.tables (K.rows self.old.log) (K.capacity self.old.log))).tables }
+        ensures rows { K.rows self.new.log ≡ K.rows self.old.log }
+        ensures capacity { K.capacity self.new.log ≡ K.capacity self.old.log }
     {
         let serial = self.tables.start()?;
         let home = self.tables.config.own;
@@ -27,10 +27,10 @@ impl<K: LogKeeper> Board<K> {
 
     /// Gives a regular object another word.
     pub fn put(&mut self, of: &OpenTransaction, object: u16, word: u32) -> Result<(), Fault>
-        ensures answer { result ≡ (put (state self.old.tables (rows self.old.log) (capacity self.old.log)) of.now.home of.now.serial object word).answer }
-        ensures tables { self.new.tables ≡ (put (state self.old.tables (rows self.old.log) (capacity self.old.log)) of.now.home of.now.serial object word).tables }
-        ensures rows { rows self.new.log ≡ rows self.old.log }
-        ensures capacity { capacity self.new.log ≡ capacity self.old.log }
+        ensures answer { result ≡ (put (state self.old.tables (K.rows self.old.log) (K.capacity self.old.log)) of.now.home of.now.serial object word).answer }
+        ensures tables { self.new.tables ≡ (put (state self.old.tables (K.rows self.old.log) (K.capacity self.old.log)) of.now.home of.now.serial object word).tables }
+        ensures rows { K.rows self.new.log ≡ K.rows self.old.log }
+        ensures capacity { K.capacity self.new.log ≡ K.capacity self.old.log }
     {
         self.tables.put(of.home, of.serial, object, word)
     }
@@ -43,10 +43,10 @@ impl<K: LogKeeper> Board<K> {
         element: u16,
         operand: i32,
     ) -> Result<(), Fault>
-        ensures answer { result ≡ (merge (state self.old.tables (rows self.old.log) (capacity self.old.log)) number (admitted operand) of.now.home of.now.serial object element operand).answer }
-        ensures tables { self.new.tables ≡ (merge (state self.old.tables (rows self.old.log) (capacity self.old.log)) number (admitted operand) of.now.home of.now.serial object element operand).tables }
-        ensures rows { rows self.new.log ≡ rows self.old.log }
-        ensures capacity { capacity self.new.log ≡ capacity self.old.log }
+        ensures answer { result ≡ (merge (state self.old.tables (K.rows self.old.log) (K.capacity self.old.log)) M.number (admitted operand) of.now.home of.now.serial object element operand).answer }
+        ensures tables { self.new.tables ≡ (merge (state self.old.tables (K.rows self.old.log) (K.capacity self.old.log)) M.number (admitted operand) of.now.home of.now.serial object element operand).tables }
+        ensures rows { K.rows self.new.log ≡ K.rows self.old.log }
+        ensures capacity { K.capacity self.new.log ≡ K.capacity self.old.log }
     {
         self.tables.merge(
             M::kind_number(),
@@ -61,7 +61,7 @@ impl<K: LogKeeper> Board<K> {
 
     /// The word of a regular object as the transaction sees it; nil where none was ever put.
     pub fn read(&self, of: &OpenTransaction, object: u16) -> Result<Option<u32>, Fault>
-        ensures { result ≡ (read (state self.now.tables (rows self.now.log) (capacity self.now.log)) of.now.home of.now.serial object).answer }
+        ensures { result ≡ (read (state self.now.tables (K.rows self.now.log) (K.capacity self.now.log)) of.now.home of.now.serial object).answer }
     {
         let row = self.tables.readable(of.home, of.serial, object, 0)?;
         Ok(queries::word_seen(&self.log, &row, object))
@@ -74,7 +74,7 @@ impl<K: LogKeeper> Board<K> {
         object: u16,
         element: u16,
     ) -> Result<M::Value, Fault>
-        ensures { result ≡ (look number origin stepped (state self.now.tables (rows self.now.log) (capacity self.now.log)) of.now.home of.now.serial object element).answer }
+        ensures { result ≡ (look M.number M.origin M.stepped (state self.now.tables (rows self.now.log) (capacity self.now.log)) of.now.home of.now.serial object element).answer }
     {
         let row = self
             .tables
@@ -84,10 +84,10 @@ impl<K: LogKeeper> Board<K> {
 
     /// Ends an open transaction, as if it had never been.
     pub fn abandon(&mut self, of: OpenTransaction) -> Result<(), (OpenTransaction, Fault)>
-        ensures answer { result ≡ abandon_answer of (abandon (state self.old.tables (rows self.old.log) (capacity self.old.log)) of.home of.serial).answer }
-        ensures tables { self.new.tables ≡ (abandon (state self.old.tables (rows self.old.log) (capacity self.old.log)) of.home of.serial).tables }
-        ensures rows { rows self.new.log ≡ rows self.old.log }
-        ensures capacity { capacity self.new.log ≡ capacity self.old.log }
+        ensures answer { result ≡ abandon_answer of (abandon (state self.old.tables (K.rows self.old.log) (K.capacity self.old.log)) of.home of.serial).answer }
+        ensures tables { self.new.tables ≡ (abandon (state self.old.tables (K.rows self.old.log) (K.capacity self.old.log)) of.home of.serial).tables }
+        ensures rows { K.rows self.new.log ≡ K.rows self.old.log }
+        ensures capacity { K.capacity self.new.log ≡ K.capacity self.old.log }
     {
         match self.tables.abandon(of.home, of.serial) {
             Ok(()) => {
@@ -100,10 +100,10 @@ impl<K: LogKeeper> Board<K> {
 
     /// What became of a transaction that waited.
     pub fn settle(&mut self, of: WaitingTransaction) -> SettleAnswer
-        ensures answer { result ≡ settle_answer of (settle (state self.old.tables (rows self.old.log) (capacity self.old.log)) of.home of.serial).answer }
-        ensures tables { self.new.tables ≡ (settle (state self.old.tables (rows self.old.log) (capacity self.old.log)) of.home of.serial).tables }
-        ensures rows { rows self.new.log ≡ rows self.old.log }
-        ensures capacity { capacity self.new.log ≡ capacity self.old.log }
+        ensures answer { result ≡ settle_answer of (settle (state self.old.tables (K.rows self.old.log) (K.capacity self.old.log)) of.home of.serial).answer }
+        ensures tables { self.new.tables ≡ (settle (state self.old.tables (K.rows self.old.log) (K.capacity self.old.log)) of.home of.serial).tables }
+        ensures rows { K.rows self.new.log ≡ K.rows self.old.log }
+        ensures capacity { K.capacity self.new.log ≡ K.capacity self.old.log }
     {
         match self.tables.settle(of.home, of.serial) {
             Ok(answer) => {

@@ -14,7 +14,7 @@ pub fn act_on<K: LogKeeper>(
     tables: &mut Tables,
     record: &Record,
 ) -> Result<Sending, Fault>
-    ensures { Acts (acted (state tables.old (rows log.old) (capacity log.old)) «record».now) (counted tables.old.config result) (to_send tables.old.config result) (state tables.old (rows log.old) (capacity log.old)) (state tables.new (rows log.new) (capacity log.new)) }
+    ensures { Acts (acted (state tables.old (K.rows log.old) (K.capacity log.old)) «record».now) (counted tables.old.config result) (to_send tables.old.config result) (state tables.old (K.rows log.old) (K.capacity log.old)) (state tables.new (K.rows log.new) (K.capacity log.new)) }
 {
     match record.kind {
         RecordKind::Prepare => agree::on_prepare(log, tables, &record.to_row()),

@@ -25,7 +25,7 @@ pub(crate) fn on_prepare<K: LogKeeper>(
     tables: &mut Tables,
     row: &Row,
 ) -> Result<Sending, Fault>
-    ensures { Acts (on_prepare (state tables.old (rows log.now) (capacity log.now)) row.now) (counted tables.old.config result) (to_send tables.old.config result) (state tables.old (rows log.now) (capacity log.now)) (state tables.new (rows log.now) (capacity log.now)) }
+    ensures { Acts (on_prepare (state tables.old (K.rows log.now) (K.capacity log.now)) row.now) (counted tables.old.config result) (to_send tables.old.config result) (state tables.old (K.rows log.now) (K.capacity log.now)) (state tables.new (K.rows log.now) (K.capacity log.now)) }
 {
     if tables.all_locked(row) {
         return Ok(vote(&tables.config, row, true));
@@ -45,7 +45,7 @@ fn on_no<K: LogKeeper>(
     row: &Row,
     agreed: u8,
 ) -> Result<Sending, Fault>
-    ensures { Acts (on_no (state tables.old (rows log.now) (capacity log.now)) row.now agreed) (counted tables.old.config result) (to_send tables.old.config result) (state tables.old (rows log.now) (capacity log.now)) (state tables.new (rows log.now) (capacity log.now)) }
+    ensures { Acts (on_no (state tables.old (K.rows log.now) (K.capacity log.now)) row.now agreed) (counted tables.old.config result) (to_send tables.old.config result) (state tables.old (K.rows log.now) (K.capacity log.now)) (state tables.new (K.rows log.now) (K.capacity log.now)) }
 {
     let home = tables.config.own;
     let serial = row.serial;
@@ -56,7 +56,7 @@ fn on_no<K: LogKeeper>(
 
 /// The last yes commits.
 fn on_last_yes<K: LogKeeper>(log: &mut K, tables: &mut Tables, row: &Row) -> Result<Sending, Fault>
-    ensures { Acts (on_last_yes (state tables.old (rows log.old) (capacity log.old)) row.now) (counted tables.old.config result) (to_send tables.old.config result) (state tables.old (rows log.old) (capacity log.old)) (state tables.new (rows log.new) (capacity log.new)) }
+    ensures { Acts (on_last_yes (state tables.old (K.rows log.old) (K.capacity log.old)) row.now) (counted tables.old.config result) (to_send tables.old.config result) (state tables.old (K.rows log.old) (K.capacity log.old)) (state tables.new (K.rows log.new) (K.capacity log.new)) }
 {
     let home = tables.config.own;
     let own = append_own(log, tables, row)?;
@@ -72,7 +72,7 @@ fn on_yes<K: LogKeeper>(
     polled: u8,
     agreed: u8,
 ) -> Result<Sending, Fault>
-    ensures { Acts (on_yes (state tables.old (rows log.old) (capacity log.old)) row.now polled agreed) (counted tables.old.config result) (to_send tables.old.config result) (state tables.old (rows log.old) (capacity log.old)) (state tables.new (rows log.new) (capacity log.new)) }
+    ensures { Acts (on_yes (state tables.old (K.rows log.old) (K.capacity log.old)) row.now polled agreed) (counted tables.old.config result) (to_send tables.old.config result) (state tables.old (K.rows log.old) (K.capacity log.old)) (state tables.new (K.rows log.new) (K.capacity log.new)) }
 {
     if agreed == polled {
         return on_last_yes(log, tables, row);
@@ -91,7 +91,7 @@ fn on_waiting<K: LogKeeper>(
     sender: u8,
     is_yes: bool,
 ) -> Result<Sending, Fault>
-    ensures { Acts (on_waiting (state tables.old (rows log.old) (capacity log.old)) row.now polled agreed sender is_yes) (counted tables.old.config result) (to_send tables.old.config result) (state tables.old (rows log.old) (capacity log.old)) (state tables.new (rows log.new) (capacity log.new)) }
+    ensures { Acts (on_waiting (state tables.old (K.rows log.old) (K.capacity log.old)) row.now polled agreed sender is_yes) (counted tables.old.config result) (to_send tables.old.config result) (state tables.old (K.rows log.old) (K.capacity log.old)) (state tables.new (K.rows log.new) (K.capacity log.new)) }
 {
     if !board_set::has(polled, sender) {
         return Ok(Sending::Nothing);
@@ -111,7 +111,7 @@ fn on_late_vote<K: LogKeeper>(
     serial: u32,
     is_yes: bool,
 ) -> Result<Sending, Fault>
-    ensures { Acts (on_late_vote (state tables.now (rows log.now) (capacity log.now)) sender serial is_yes) (counted tables.now.config result) (to_send tables.now.config result) (state tables.now (rows log.now) (capacity log.now)) (state tables.now (rows log.now) (capacity log.now)) }
+    ensures { Acts (on_late_vote (state tables.now (K.rows log.now) (K.capacity log.now)) sender serial is_yes) (counted tables.now.config result) (to_send tables.now.config result) (state tables.now (K.rows log.now) (K.capacity log.now)) (state tables.now (K.rows log.now) (K.capacity log.now)) }
 {
     if is_yes && queries::row_by_serial(log, tables.config.own, serial).is_none() {
         return Ok(Sending::One(bus::abort(&tables.config, serial, sender)));
@@ -127,7 +127,7 @@ pub(crate) fn on_vote<K: LogKeeper>(
     serial: u32,
     is_yes: bool,
 ) -> Result<Sending, Fault>
-    ensures { Acts (on_vote (state tables.old (rows log.old) (capacity log.old)) sender serial is_yes) (counted tables.old.config result) (to_send tables.old.config result) (state tables.old (rows log.old) (capacity log.old)) (state tables.new (rows log.new) (capacity log.new)) }
+    ensures { Acts (on_vote (state tables.old (K.rows log.old) (K.capacity log.old)) sender serial is_yes) (counted tables.old.config result) (to_send tables.old.config result) (state tables.old (K.rows log.old) (K.capacity log.old)) (state tables.new (K.rows log.new) (K.capacity log.new)) }
 {
     match tables.place_of(serial) {
         Place::Waiting(row, polled, agreed) => {
@@ -147,7 +147,7 @@ pub(crate) fn on_abort<K: LogKeeper>(
     sender: u8,
     serial: u32,
 ) -> Result<Sending, Fault>
-    ensures { Acts (on_abort (state tables.old (rows log.now) (capacity log.now)) sender serial) (counted tables.old.config result) (to_send tables.old.config result) (state tables.old (rows log.now) (capacity log.now)) (state tables.new (rows log.now) (capacity log.now)) }
+    ensures { Acts (on_abort (state tables.old (K.rows log.now) (K.capacity log.now)) sender serial) (counted tables.old.config result) (to_send tables.old.config result) (state tables.old (K.rows log.now) (K.capacity log.now)) (state tables.new (K.rows log.now) (K.capacity log.now)) }
 {
     tables.release(sender, serial);
     Ok(Sending::Nothing)

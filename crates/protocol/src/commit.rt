@@ -16,7 +16,7 @@ fn commit_fast<K: LogKeeper>(
     tables: &mut Tables,
     row: &Row,
 ) -> Result<(u8, u16, Sending), Fault>
-    ensures { Acts (fast_commit (state tables.old (rows log.old) (capacity log.old)) row.now) (outcome_in tables.old.config result) (records_by tables.old.config result) (state tables.old (rows log.old) (capacity log.old)) (state tables.new (rows log.new) (capacity log.new)) }
+    ensures { Acts (fast_commit (state tables.old (K.rows log.old) (K.capacity log.old)) row.now) (outcome_in tables.old.config result) (records_by tables.old.config result) (state tables.old (K.rows log.old) (K.capacity log.old)) (state tables.new (K.rows log.new) (K.capacity log.new)) }
 {
     let own = append_own(log, tables, row)?;
     tables.set_place(row.serial, Place::Free);
@@ -30,7 +30,7 @@ fn commit_slowly<K: LogKeeper>(
     row: &Row,
     polled: u8,
 ) -> Result<(u8, u16, Sending), Fault>
-    ensures { Acts (slow_commit (state tables.old (rows log.now) (capacity log.now)) row.now polled) (outcome_in tables.old.config result) (records_by tables.old.config result) (state tables.old (rows log.now) (capacity log.now)) (state tables.new (rows log.now) (capacity log.now)) }
+    ensures { Acts (slow_commit (state tables.old (K.rows log.now) (K.capacity log.now)) row.now polled) (outcome_in tables.old.config result) (records_by tables.old.config result) (state tables.old (K.rows log.now) (K.capacity log.now)) (state tables.new (K.rows log.now) (K.capacity log.now)) }
 {
     tables.lockable(row)?;
     tables.set_place(row.serial, Place::Waiting(*row, polled, 0));
@@ -44,7 +44,7 @@ fn commit_clear<K: LogKeeper>(
     tables: &mut Tables,
     row: &Row,
 ) -> Result<(u8, u16, Sending), Fault>
-    ensures { Acts (clear_commit (state tables.old (rows log.old) (capacity log.old)) row.now) (outcome_in tables.old.config result) (records_by tables.old.config result) (state tables.old (rows log.old) (capacity log.old)) (state tables.new (rows log.new) (capacity log.new)) }
+    ensures { Acts (clear_commit (state tables.old (K.rows log.old) (K.capacity log.old)) row.now) (outcome_in tables.old.config result) (records_by tables.old.config result) (state tables.old (K.rows log.old) (K.capacity log.old)) (state tables.new (K.rows log.new) (K.capacity log.new)) }
 {
     let polled = tables.config.polled_for(row);
     if polled == 0 {
@@ -69,7 +69,7 @@ pub fn try_to_commit<K: LogKeeper>(
     tables: &mut Tables,
     row: &Row,
 ) -> Result<(u8, u16, Sending), Fault>
-    ensures { Acts (tried (state tables.old (rows log.old) (capacity log.old)) row.now) (outcome_in tables.old.config result) (records_by tables.old.config result) (state tables.old (rows log.old) (capacity log.old)) (state tables.new (rows log.new) (capacity log.new)) }
+    ensures { Acts (tried (state tables.old (K.rows log.old) (K.capacity log.old)) row.now) (outcome_in tables.old.config result) (records_by tables.old.config result) (state tables.old (K.rows log.old) (K.capacity log.old)) (state tables.new (K.rows log.new) (K.capacity log.new)) }
 {
     if row.updates().len() == 0 {
         return Ok(end(tables, row.serial, outcome::COMMITTED));

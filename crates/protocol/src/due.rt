@@ -11,7 +11,7 @@ use tables::{Place, Tables};
 
 /// What is due to others for an own row.
 fn due_for_row<K: LogKeeper>(log: &K, tables: &Tables, serial: u32) -> Result<Sending, Fault>
-    ensures { records_in tables.now.config result ≡ of_own_row (state tables.now (rows log.now) (capacity log.now)) serial }
+    ensures { records_in tables.now.config result ≡ of_own_row (state tables.now (K.rows log.now) (K.capacity log.now)) serial }
 {
     match queries::row_by_serial(log, tables.config.own, serial) {
         Some(row) => {
@@ -25,7 +25,7 @@ fn due_for_row<K: LogKeeper>(log: &K, tables: &Tables, serial: u32) -> Result<Se
 
 /// What is due to others for the transaction with a serial.
 pub fn due_for<K: LogKeeper>(log: &K, tables: &Tables, serial: u32) -> Result<Sending, Fault>
-    ensures { records_in tables.now.config result ≡ due (state tables.now (rows log.now) (capacity log.now)) serial }
+    ensures { records_in tables.now.config result ≡ due (state tables.now (K.rows log.now) (K.capacity log.now)) serial }
 {
     match tables.place_of(serial) {
         Place::Free => due_for_row(log, tables, serial),

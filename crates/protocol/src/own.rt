@@ -9,7 +9,7 @@ use tables::Tables;
 
 /// Whether each of our regular objects that the row writes is clear: unlocked, and changed by no row that its start clock does not cover.
 pub(crate) fn all_clear<K: LogKeeper>(log: &K, tables: &Tables, row: &Row) -> bool
-    ensures { result ≡ all_clear (state tables.now (rows log.now) (capacity log.now)) row.now }
+    ensures { result ≡ all_clear (state tables.now (K.rows log.now) (K.capacity log.now)) row.now }
 {
     tables.all_unlocked(row) && !queries::has_clash(log, &tables.config, row)
 }
@@ -20,10 +20,10 @@ pub(crate) fn append_own<K: LogKeeper>(
     tables: &mut Tables,
     row: &Row,
 ) -> Result<Row, Fault>
-    ensures answer { result ≡ (own_row (state tables.old (rows log.old) (capacity log.old)) row.now).answer }
-    ensures tables { tables.new ≡ (own_row (state tables.old (rows log.old) (capacity log.old)) row.now).tables }
-    ensures rows { rows log.new ≡ (own_row (state tables.old (rows log.old) (capacity log.old)) row.now).rows }
-    ensures capacity { capacity log.new ≡ capacity log.old }
+    ensures answer { result ≡ (own_row (state tables.old (K.rows log.old) (K.capacity log.old)) row.now).answer }
+    ensures tables { tables.new ≡ (own_row (state tables.old (K.rows log.old) (K.capacity log.old)) row.now).tables }
+    ensures rows { K.rows log.new ≡ (own_row (state tables.old (K.rows log.old) (K.capacity log.old)) row.now).rows }
+    ensures capacity { K.capacity log.new ≡ K.capacity log.old }
 {
     let number = tables.next_number();
     if number > 4096 {

@@ -31,7 +31,7 @@ fn on_new_row<K: LogKeeper>(
     row: &Row,
     ack: Record,
 ) -> Result<Sending, Fault>
-    ensures { Acts (on_new_row (state tables.old (rows log.old) (capacity log.old)) row.now ack) (counted tables.old.config result) (to_send tables.old.config result) (state tables.old (rows log.old) (capacity log.old)) (state tables.new (rows log.new) (capacity log.new)) }
+    ensures { Acts (on_new_row (state tables.old (K.rows log.old) (K.capacity log.old)) row.now ack) (counted tables.old.config result) (to_send tables.old.config result) (state tables.old (K.rows log.old) (K.capacity log.old)) (state tables.new (K.rows log.new) (K.capacity log.new)) }
 {
     if !is_due(tables, row) {
         return Err(Fault::board(Denial::Early));
@@ -47,7 +47,7 @@ pub(crate) fn on_propagate<K: LogKeeper>(
     tables: &mut Tables,
     row: &Row,
 ) -> Result<Sending, Fault>
-    ensures { Acts (on_propagate (state tables.old (rows log.old) (capacity log.old)) row.now) (counted tables.old.config result) (to_send tables.old.config result) (state tables.old (rows log.old) (capacity log.old)) (state tables.new (rows log.new) (capacity log.new)) }
+    ensures { Acts (on_propagate (state tables.old (K.rows log.old) (K.capacity log.old)) row.now) (counted tables.old.config result) (to_send tables.old.config result) (state tables.old (K.rows log.old) (K.capacity log.old)) (state tables.new (K.rows log.new) (K.capacity log.new)) }
 {
     let ack = bus::ack(&tables.config, row.number, row.home);
     if tables.got.covers(row.home, row.number) {
@@ -76,7 +76,7 @@ fn on_known_ack<K: LogKeeper>(
     sender: u8,
     number: u16,
 ) -> Result<Sending, Fault>
-    ensures { Acts (on_known_ack (state tables.old (rows log.now) (capacity log.now)) sender number) (counted tables.old.config result) (to_send tables.old.config result) (state tables.old (rows log.now) (capacity log.now)) (state tables.new (rows log.now) (capacity log.now)) }
+    ensures { Acts (on_known_ack (state tables.old (K.rows log.now) (K.capacity log.now)) sender number) (counted tables.old.config result) (to_send tables.old.config result) (state tables.old (K.rows log.now) (K.capacity log.now)) (state tables.new (K.rows log.now) (K.capacity log.now)) }
 {
     match queries::row_by_number(log, tables.config.own, number) {
         Some(row) => {
@@ -98,7 +98,7 @@ pub(crate) fn on_ack<K: LogKeeper>(
     sender: u8,
     number: u16,
 ) -> Result<Sending, Fault>
-    ensures { Acts (on_ack (state tables.old (rows log.now) (capacity log.now)) sender number) (counted tables.old.config result) (to_send tables.old.config result) (state tables.old (rows log.now) (capacity log.now)) (state tables.new (rows log.now) (capacity log.now)) }
+    ensures { Acts (on_ack (state tables.old (K.rows log.now) (K.capacity log.now)) sender number) (counted tables.old.config result) (to_send tables.old.config result) (state tables.old (K.rows log.now) (K.capacity log.now)) (state tables.new (K.rows log.now) (K.capacity log.now)) }
 {
     if tables.committed.covers(tables.config.own, number) {
         on_known_ack(log, tables, sender, number)
@@ -118,7 +118,7 @@ fn is_showable(tables: &Tables, sender: u8, number: u16, row: &Row) -> bool
 
 /// The row that a DURABLE is for, if it may show.
 fn shown<K: LogKeeper>(log: &K, tables: &Tables, sender: u8, number: u16) -> Result<Row, Fault>
-    ensures { result ≡ shown (state tables.now (rows log.now) (capacity log.now)) sender number }
+    ensures { result ≡ shown (state tables.now (K.rows log.now) (K.capacity log.now)) sender number }
 {
     match queries::row_by_number(log, sender, number) {
         Some(row) => {
@@ -139,7 +139,7 @@ pub(crate) fn on_durable<K: LogKeeper>(
     sender: u8,
     number: u16,
 ) -> Result<Sending, Fault>
-    ensures { Acts (on_durable (state tables.old (rows log.now) (capacity log.now)) sender number) (counted tables.old.config result) (to_send tables.old.config result) (state tables.old (rows log.now) (capacity log.now)) (state tables.new (rows log.now) (capacity log.now)) }
+    ensures { Acts (on_durable (state tables.old (K.rows log.now) (K.capacity log.now)) sender number) (counted tables.old.config result) (to_send tables.old.config result) (state tables.old (K.rows log.now) (K.capacity log.now)) (state tables.new (K.rows log.now) (K.capacity log.now)) }
 {
     if tables.committed.covers(sender, number) {
         return Ok(Sending::Nothing);

@@ -7,7 +7,7 @@ use record::Row;
 
 /// What a row is sought by: its serial or its number.
 #[derive(Clone, Copy)]
-pub(crate) enum Sought {
+pub enum Sought {
     Serial(u32),
     Number(u16),
 }
@@ -26,7 +26,7 @@ impl Sought {
 
 /// The first row of a home that is sought.
 fn find_row<K: LogKeeper>(log: &K, home: u8, sought: Sought) -> Option<Row>
-    ensures { result ≡ find_row (is_sought sought home) (rows log.now) }
+    ensures { result ≡ find_row (is_sought sought home) (K.rows log.now) }
 {
     for place in 0..log.count() {
         let row = log.row_at(place);
@@ -39,14 +39,14 @@ fn find_row<K: LogKeeper>(log: &K, home: u8, sought: Sought) -> Option<Row>
 
 /// The row of a home with this serial.
 pub fn row_by_serial<K: LogKeeper>(log: &K, home: u8, serial: u32) -> Option<Row>
-    ensures { result ≡ find_row (by_serial home serial) (rows log.now) }
+    ensures { result ≡ find_row (by_serial home serial) (K.rows log.now) }
 {
     find_row(log, home, Sought::Serial(serial))
 }
 
 /// The row of a home with this number.
 pub fn row_by_number<K: LogKeeper>(log: &K, home: u8, number: u16) -> Option<Row>
-    ensures { result ≡ find_row (by_number home number) (rows log.now) }
+    ensures { result ≡ find_row (by_number home number) (K.rows log.now) }
 {
     find_row(log, home, Sought::Number(number))
 }

@@ -31,7 +31,7 @@ fn newer(found: Option<i32>, update: &Update, object: u16) -> Option<i32>
 
 /// The operand of the last update of the object in the rows that the clock covers, from the newest row down.
 fn last_put<K: LogKeeper>(log: &K, clock: &Clock, object: u16) -> Option<i32>
-    ensures { result ≡ last_put object (covered_updates (rows log.now) clock.now) }
+    ensures { result ≡ last_put object (covered_updates (K.rows log.now) clock.now) }
 {
     let mut left = log.count();
     while left > 0 {
@@ -64,7 +64,7 @@ fn look_through<M: MergingKind, K: LogKeeper>(
     object: u16,
     element: u16,
 ) -> M::Value
-    ensures { result ≡ value_after stepped object element first (covered_updates (rows log.now) clock.now) }
+    ensures { result ≡ value_after M.stepped object element first (covered_updates (K.rows log.now) clock.now) }
 {
     let mut value = first;
     for place in 0..log.count() {
@@ -81,7 +81,7 @@ fn step_row<M: MergingKind>(
     object: u16,
     element: u16,
 ) -> M::Value
-    ensures { result ≡ value_after stepped object element value (updates_if clock.now row.now) }
+    ensures { result ≡ value_after M.stepped object element value (updates_if clock.now row.now) }
 {
     if clock.covers(row.home, row.number) {
         merged::<M>(value, row.updates(), object, element)
@@ -92,7 +92,7 @@ fn step_row<M: MergingKind>(
 
 /// The operand of the last update of the object that the transaction of a row sees: its own, or else one of the log.
 fn last_seen<K: LogKeeper>(log: &K, row: &Row, object: u16) -> Option<i32>
-    ensures { result ≡ last_put object (visible (rows log.now) row.now) }
+    ensures { result ≡ last_put object (visible (K.rows log.now) row.now) }
 {
     let own = last_update(row.updates(), object);
     if own.is_some() {
@@ -114,7 +114,7 @@ fn word(operand: Option<i32>) -> Option<u32>
 
 /// The word of a regular object as the transaction of a row sees it; none where it was never put.
 pub fn word_seen<K: LogKeeper>(log: &K, row: &Row, object: u16) -> Option<u32>
-    ensures { result ≡ word_of (last_put object (visible (rows log.now) row.now)) }
+    ensures { result ≡ word_of (last_put object (visible (K.rows log.now) row.now)) }
 {
     word(last_seen(log, row, object))
 }
@@ -127,7 +127,7 @@ fn value_from<M: MergingKind, K: LogKeeper>(
     object: u16,
     element: u16,
 ) -> M::Value
-    ensures { result ≡ value_after stepped object element first (visible (rows log.now) row.now) }
+    ensures { result ≡ value_after M.stepped object element first (visible (K.rows log.now) row.now) }
 {
     let value = look_through::<M, K>(first, log, &row.start, object, element);
     merged::<M>(value, row.updates(), object, element)
@@ -140,7 +140,7 @@ pub fn value_seen<M: MergingKind, K: LogKeeper>(
     object: u16,
     element: u16,
 ) -> M::Value
-    ensures { result ≡ value_after stepped object element origin (visible (rows log.now) row.now) }
+    ensures { result ≡ value_after M.stepped object element M.origin (visible (K.rows log.now) row.now) }
 {
     value_from::<M, K>(M::first(), log, row, object, element)
 }

@@ -3,8 +3,8 @@ use Rattle.protocol.specs.Effects.{state}
 use Rattle.protocol.proofs.Refusals.{own_refused}
 use Rattle.protocol.proofs.commit.commit_fast.Goals as goal
 
-pub returns-in-err-own : goal.returns-in-err-own
-returns-in-err-own g c =
+pub returns-in_err-own : goal.returns-in_err-own
+returns-in_err-own g c =
     let h = own_refused (state c.args.tables.now (g.K.LogKeeper.rows c.args.log.now) (g.K.LogKeeper.capacity c.args.log.now))
-    c.args.row.now c.in-err-own.field-0.0 (sym c.in-err-own.ensures.answer) in
+    c.args.row.now c.in_err-own.field-0.0 (sym c.in_err-own.ensures.answer) in
     search (rules, h)

@@ -17,13 +17,13 @@ pub returns : goal.returns
 returns g c =
     let s : State = state c.args.tables.now (g.K.LogKeeper.rows c.args.log.now) (g.K.LogKeeper.capacity c.args.log.now) in
     let due : is_due s.tables c.args.row.now ≡ true = sym c.is_due.ensures ∙ c.if-not-is_due.false in
-    let room : admitted c.args.row.now (length s.rows) s.capacity ≡ Ok tt = sym c.in-ok-append.ensures.answer in
+    let room : admitted c.args.row.now (length s.rows) s.capacity ≡ Ok tt = sym c.in_ok-append.ensures.answer in
     let h = may_take_holds s c.args.row.now due room in
     record {
       answer = search (rules, h);
       written = search (rules, h);
       tables = search (rules, h);
-      rows = c.in-ok-append.ensures.after ∙ sym (taken_in s c.args.row.now due room c.args.ack);
+      rows = c.in_ok-append.ensures.after ∙ sym (taken_in s c.args.row.now due room c.args.ack);
       capacity = search rules;
       config = search (rules, h);
     }
