@@ -43,8 +43,8 @@ impl<K: LogKeeper> Board<K> {
         element: u16,
         operand: i32,
     ) -> Result<(), Fault>
-        ensures answer { result ≡ (merge (state self.old.tables (K.rows self.old.log) (K.capacity self.old.log)) M.number (admitted operand) of.now.home of.now.serial object element operand).answer }
-        ensures tables { self.new.tables ≡ (merge (state self.old.tables (K.rows self.old.log) (K.capacity self.old.log)) M.number (admitted operand) of.now.home of.now.serial object element operand).tables }
+        ensures answer { result ≡ (merge (state self.old.tables (K.rows self.old.log) (K.capacity self.old.log)) M.number (M.admitted operand) of.now.home of.now.serial object element operand).answer }
+        ensures tables { self.new.tables ≡ (merge (state self.old.tables (K.rows self.old.log) (K.capacity self.old.log)) M.number (M.admitted operand) of.now.home of.now.serial object element operand).tables }
         ensures rows { K.rows self.new.log ≡ K.rows self.old.log }
         ensures capacity { K.capacity self.new.log ≡ K.capacity self.old.log }
     {
@@ -74,7 +74,7 @@ impl<K: LogKeeper> Board<K> {
         object: u16,
         element: u16,
     ) -> Result<M::Value, Fault>
-        ensures { result ≡ (look M.number M.origin M.stepped (state self.now.tables (rows self.now.log) (capacity self.now.log)) of.now.home of.now.serial object element).answer }
+        ensures { result ≡ (look M.number M.origin M.stepped (state self.now.tables (K.rows self.now.log) (K.capacity self.now.log)) of.now.home of.now.serial object element).answer }
     {
         let row = self
             .tables
