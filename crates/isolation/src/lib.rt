@@ -6,14 +6,14 @@ use merging::MergingKind;
 
 /// Every run of the abstract machine is isolated, for every merging kind. It computes nothing: its contract is the theorem.
 pub fn machine_is_isolated<M: MergingKind>() -> u8
-    ensures isolated { MachineIsolated origin stepped }
+    ensures isolated { MachineIsolated M.origin M.stepped }
 {
     0
 }
 
 /// Every run of every group of boards is isolated, for every merging kind. It computes nothing: its contract is the theorem.
 pub fn boards_are_isolated<M: MergingKind>() -> u8
-    ensures isolated { Isolated number origin stepped }
+    ensures isolated { Isolated M.number M.origin M.stepped }
 {
     0
 }
