@@ -1,4 +1,6 @@
 //! The calls of a board.
+#![tactic(auto)]
+
 mod board;
 mod commit;
 mod deliver;

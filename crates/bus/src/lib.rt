@@ -1,4 +1,6 @@
 //! Records between boards: what is told to others, and what is taken from the bus.
+#![tactic(auto)]
+
 mod letter;
 mod received;
 mod sending;

@@ -1,4 +1,6 @@
 //! Captured bus logs: what each line holds, in words.
+#![tactic(auto)]
+
 mod class;
 mod hex;
 mod line;

@@ -1,4 +1,6 @@
 //! What a board is built with, and what that says of objects, boards and rows.
+#![tactic(auto)]
+
 pub mod board_set;
 mod build;
 mod config;

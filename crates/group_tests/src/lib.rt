@@ -1,4 +1,6 @@
 //! Boards of a group played as firmware plays them, with the records of one brought to another.
+#![tactic(auto)]
+
 #[cfg(test)]
 mod agree;
 #[cfg(test)]

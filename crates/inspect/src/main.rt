@@ -1,4 +1,6 @@
 //! Explains a captured bus log: standard input, line by line, in words on standard output.
+#![tactic(auto)]
+
 use buslog::Report;
 use std::io::{BufRead, BufReader, BufWriter, Write};
 

@@ -8,7 +8,7 @@ use Rattle.std.proofs.lemmas.Bool.Decides.{nat_tests}
 use Rattle.record.specs.declared.row.Row.{Row}
 use Rattle.record.specs.Rows.{updates_of}
 use Rattle.tables.specs.Changes.{placed, locked, released, with_own, with_got, with_shown, with_ack}
-use Rattle.tables.specs.Locks.{is_unlocked, free_locks, with_locks}
+use Rattle.tables.specs.Locks.{is_unlocked, free_locks}
 use Rattle.config.specs.Objects.{is_ours, writes, count_ours}
 use Rattle.tables.specs.Places.{is_free, has_serial, first_at, place_of, with_place}
 use Rattle.tables.specs.Transactions.{started, opened as openedBy, freed}

@@ -1,5 +1,5 @@
 -- No lost update: of two committed writers, one is in the other's snapshot.
-use Rattle.std.proofs.Common.{◌≡◌, ℕ, ◌<◌, Bool, ◌⊎◌, List, sym, ap, ◌∙◌, subst, inl, inr, ⊎_elim}
+use Rattle.std.proofs.Common.{◌≡◌, ℕ, ◌<◌, Bool, List, sym, ap, ◌∙◌, subst, inl, inr, ⊎_elim}
 use mathlib.Core.List.{Memᴰ}
 use Rattle.record.specs.Clocks.{entry_of}
 use Rattle.record.specs.Rows.{updates_of}

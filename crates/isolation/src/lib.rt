@@ -1,4 +1,6 @@
 //! The isolation law: what transactions on a group of boards see, told from the events alone.
+#![tactic(auto)]
+
 ghost use Rattle.isolation.specs.Isolation.{Isolated};
 ghost use Rattle.isolation.specs.MachineLaw.{MachineIsolated};
 

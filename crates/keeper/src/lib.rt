@@ -1,4 +1,6 @@
 //! Keepers of a board's log: a table of rows, and an area of ROW records.
+#![tactic(auto)]
+
 mod admit;
 mod area;
 mod log;

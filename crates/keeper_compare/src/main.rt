@@ -1,4 +1,6 @@
 //! Gives a table and an area of equal capacities the same rows, and prints what they answered and where they differ.
+#![tactic(auto)]
+
 mod compare;
 mod difference;
 mod random;

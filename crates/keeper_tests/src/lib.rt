@@ -1,4 +1,6 @@
 //! The keepers on examples.
+#![tactic(auto)]
+
 ghost use Rattle.std.specs.Prelude.{◌≡◌, if◌then◌else◌};
 ghost use Rattle.record.specs.Layout.{bytes_of, written};
 ghost use Rattle.keeper.specs.Logs.{row_record};

@@ -1,4 +1,6 @@
 //! Merging kinds: objects whose elements end alike in whatever order their operands arrive.
+#![tactic(auto)]
+
 mod count;
 mod fold;
 mod highest_mark;

@@ -1,4 +1,6 @@
 //! What the two merging kinds show on examples.
+#![tactic(auto)]
+
 #[cfg(test)]
 mod count;
 #[cfg(test)]

@@ -1,4 +1,6 @@
 //! How a panel's firmware holds a transaction: every path ends it or hands it on. The edits in `refused/` are of this crate.
+#![tactic(auto)]
+
 use board::{Board, CommitAnswer, OpenTransaction, SettleAnswer, WaitingTransaction};
 use keeper::LogKeeper;
 use record::Fault;

@@ -1,5 +1,5 @@
 -- Commit: fast where every regular object written is preferred here, and else slow.
-use Rattle.std.specs.Prelude.{ℕ, ◌+◌, Bool, true, cond, ◌&&◌, List, [], ◌∷◌, ◌++◌, length, Ok, Err, Result, ◌==◌, nat_le}
+use Rattle.std.specs.Prelude.{ℕ, Bool, true, cond, ◌&&◌, List, [], ◌∷◌, ◌++◌, length, Ok, Err, Result, ◌==◌, nat_le}
 use Rattle.record.specs.declared.clock.Clock.{Clock}
 use Rattle.record.specs.declared.fault.Denial.TheVariants.{ShortBuffer, LogFull}
 use Rattle.record.specs.declared.fault.Fault.{Fault}

@@ -21,7 +21,7 @@ use Rattle.tables.specs.declared.place.Place.TheVariants.{Free, Open, Waiting, C
 use Rattle.tables.specs.declared.tables.Tables.{Tables}
 use Rattle.protocol.specs.Commits.{all_clear, may_append, propagates, buffer_fits}
 use Rattle.protocol.specs.Effects.{State, Effect, refused, changed, or_refused}
-use Rattle.queries.specs.Logs.{find_row, by_serial, by_number}
+use Rattle.queries.specs.Logs.{find_row, by_number}
 use Rattle.bus.specs.Records.{vote, abort, ack, durable, to_others}
 use Rattle.protocol.specs.Resends.{sent}
 use Rattle.record.specs.Verdicts.{and_then, need}

@@ -1,4 +1,6 @@
 //! What commit and delivered records do to a board's tables and log, and what is then told to others.
+#![tactic(auto)]
+
 mod act;
 mod agree;
 mod commit;

@@ -1,4 +1,6 @@
 //! Questions to a log, over any keeper.
+#![tactic(auto)]
+
 mod clash;
 mod find;
 mod seen;

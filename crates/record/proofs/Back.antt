@@ -1,5 +1,5 @@
 -- A record put into its bytes and taken out again is that record.
-use Rattle.std.proofs.Common.{◌≡◌, ℕ, ◌+◌, ◌-◌, ◌*◌, ◌/◌, ◌%◌, ◌<◌, List, [], ◌∷◌, map, length, get_or, ℤ, Some, None, Ok, Option, Result, sym, refl, ap, ◌∙◌, subst, mod-eq_of_lt, arith, lit<, w32, SFits, to_z, of_z}
+use Rattle.std.proofs.Common.{◌≡◌, ℕ, ◌+◌, ◌*◌, ◌/◌, ◌%◌, ◌<◌, List, [], ◌∷◌, map, length, get_or, ℤ, Some, None, Ok, Option, Result, sym, refl, ap, ◌∙◌, subst, mod-eq_of_lt, arith, lit<, w32, SFits, to_z, of_z}
 use mir.ValLaws.{of_z_fits}
 use Rattle.std.proofs.lemmas.Nat.{shr-shr, div-add-mod', div_below}
 use Rattle.std.specs.List.{range_with_len}
@@ -14,7 +14,7 @@ use Rattle.record.specs.declared.kind.RecordKind.{RecordKind}
 use Rattle.record.specs.declared.row.Update.{Update}
 use Rattle.record.specs.declared.message.Record.{Record}
 use Rattle.record.specs.Numbers.{u32_at}
-use Rattle.record.specs.Layout.{record_at, bytes_of, update_at, update_bytes, written}
+use Rattle.record.specs.Layout.{record_at, bytes_of, update_at, update_bytes}
 use Rattle.record.specs.Codec.{Sized, Kept, unless, decoded}
 use Rattle.record.specs.Rows.{no_update}
 use Rattle.record.specs.Rules.{by_kind, breaks, offence}

@@ -6,7 +6,7 @@ use Rattle.record.specs.declared.kind.KindRules.{KindRules}
 use Rattle.record.specs.declared.message.Record.{Record}
 use Rattle.record.specs.declared.row.Update.{Update}
 use Rattle.record.specs.Rows.{no_update}
-use Rattle.record.specs.Rules.{Rule, first, clock_rules, head_rules, highest, used, rules, offence, zero_rules, update_rules}
+use Rattle.record.specs.Rules.{Rule, first, clock_rules, head_rules, highest, used, offence, zero_rules, update_rules}
 
 abbrev pub or_else : Option ℕ → Option ℕ → Option ℕ
 or_else None o = o

@@ -1,5 +1,5 @@
 -- Bytes that break no rule, taken apart and put together again, are those bytes.
-use Rattle.std.proofs.Common.{◌≡◌, ℕ, ◌+◌, ◌-◌, ◌*◌, ◌/◌, ◌%◌, ◌<◌, Bool, true, false, cond, eqb, List, [], ◌∷◌, map, length, get_or, IfOk, Some, None, Ok, Err, Option, Result, sym, refl, ap, ◌∙◌, arith, w32, to_z, of_z}
+use Rattle.std.proofs.Common.{◌≡◌, ℕ, ◌+◌, ◌*◌, ◌/◌, ◌%◌, ◌<◌, Bool, true, false, cond, eqb, List, [], ◌∷◌, map, length, get_or, IfOk, Some, None, Ok, Err, Option, Result, sym, refl, ap, ◌∙◌, arith, w32, to_z, of_z}
 use Rattle.std.specs.List.{range_with_len, AllByRecursion as All}
 use Rattle.record.specs.declared.fault.Fault.{Fault}
 use Rattle.std.proofs.lemmas.List.FromFn.{fill_by_all}

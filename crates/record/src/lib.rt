@@ -1,4 +1,6 @@
 //! What the boards of a group say to each other: bus records of 64 bytes, and the clocks, rows and faults in them.
+#![tactic(auto)]
+
 mod bytes;
 mod clock;
 mod codec;

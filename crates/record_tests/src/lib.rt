@@ -1,4 +1,6 @@
 //! Examples of bus records, run against the public calls of `record`.
+#![tactic(auto)]
+
 #[cfg(test)]
 mod bounds;
 #[cfg(test)]

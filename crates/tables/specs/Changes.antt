@@ -7,7 +7,7 @@ use Rattle.record.specs.declared.row.Row.{Row}
 use Rattle.record.specs.Clocks.{entry_of, raised}
 use Rattle.record.specs.Rows.{updates_of}
 use Rattle.tables.specs.Locks.{is_unlocked, is_locked_by, free_locks, with_locks, without_owner}
-use Rattle.config.specs.Objects.{writes, every_ours, count_ours}
+use Rattle.config.specs.Objects.{every_ours, count_ours}
 use Rattle.tables.specs.Places.{with_place}
 use Rattle.record.specs.Verdicts.{need}
 use Rattle.tables.specs.Transactions.{with_places}

@@ -1,5 +1,5 @@
 -- One lock, one board: the steps of what is done at each lock place or for each update.
-use Rattle.std.specs.Prelude.{ℕ, Bool, true, false, cond, not, ◌&&◌, List}
+use Rattle.std.specs.Prelude.{ℕ, Bool, true, false, cond, ◌&&◌, List}
 use Rattle.tables.specs.Locks.{is_owned, is_unlocked, with_lock}
 use Rattle.config.specs.Objects.{is_ours}
 use Rattle.tables.specs.Places.{first_at}

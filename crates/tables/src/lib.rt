@@ -1,4 +1,6 @@
 //! What a board keeps beside its log: clocks, transaction places and locks.
+#![tactic(auto)]
+
 mod changes;
 mod durable;
 mod fresh;

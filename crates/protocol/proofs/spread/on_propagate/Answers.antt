@@ -1,6 +1,5 @@
 use Rattle.std.proofs.Common.{◌≡◌, false, sym, ap, ◌∙◌, subst}
 use Rattle.record.specs.Clocks.{covered}
-use Rattle.record.specs.declared.message.Record.{Record}
 use Rattle.record.specs.declared.row.Row.{Row}
 use Rattle.bus.specs.Records.{ack}
 use Rattle.protocol.specs.Delivers.{on_new_row, on_propagate}
