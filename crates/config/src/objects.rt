@@ -1,7 +1,6 @@
 //! Objects, their containers, and what the updates of a transaction touch.
 ghost use Rattle.std.specs.Prelude.{◌≡◌, not, ◌&&◌, ◌||◌, ◌==◌};
 ghost use Rattle.config.specs.Objects.{container_of, is_listed, kind_of, preferred_of, is_regular, is_ours, writes, writes_regular, every_ours, count_ours, polled_for, polled_with, clashes};
-ghost use Rattle.record.specs.Rows.{updates_of};
 
 use crate::board_set;
 use crate::config::Config;
@@ -114,7 +113,7 @@ impl Config {
     }
 
     /// How many of our objects are written, each counted once.
-    fn count_in(&self, updates: &[Update]) -> usize
+    pub fn count_ours(&self, updates: &[Update]) -> usize
         ensures { result ≡ count_ours self.now updates.now }
     {
         let mut count = 0;
@@ -139,7 +138,7 @@ impl Config {
     }
 
     /// The other boards that are preferred for a written regular object.
-    pub fn polled_in(&self, updates: &[Update]) -> u8
+    pub fn polled_for(&self, updates: &[Update]) -> u8
         ensures { result ≡ polled_for self.now updates.now }
     {
         let mut set = 0;
@@ -147,20 +146,6 @@ impl Config {
             set = self.polling(set, update.object);
         }
         set
-    }
-
-    /// How many of our objects the row writes, each counted once.
-    pub fn count_ours(&self, row: &Row) -> usize
-        ensures { result ≡ count_ours self.now (updates_of row.now) }
-    {
-        self.count_in(row.updates())
-    }
-
-    /// The other boards that are preferred for a regular object that the row writes.
-    pub fn polled_for(&self, row: &Row) -> u8
-        ensures { result ≡ polled_for self.now (updates_of row.now) }
-    {
-        self.polled_in(row.updates())
     }
 
     /// Whether the other row is not covered by this one's start clock, and writes one of our objects that this one writes.

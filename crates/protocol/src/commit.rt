@@ -46,7 +46,7 @@ fn commit_clear<K: LogKeeper>(
 ) -> Result<(u8, u16, Sending), Fault>
     ensures { Acts (clear_commit (state tables.old (K.rows log.old) (K.capacity log.old)) row.now) (outcome_in tables.old.config result) (records_by tables.old.config result) (state tables.old (K.rows log.old) (K.capacity log.old)) (state tables.new (K.rows log.new) (K.capacity log.new)) }
 {
-    let polled = tables.config.polled_for(row);
+    let polled = tables.polled_for(row);
     if polled == 0 {
         commit_fast(log, tables, row)
     } else {

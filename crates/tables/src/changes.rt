@@ -53,7 +53,7 @@ impl Tables {
     pub fn lockable(&self, row: &Row) -> Result<(), Fault>
         ensures { result ≡ lockable self.now row.now }
     {
-        if self.config.count_ours(row) <= lock::free_locks(&self.locks) {
+        if self.config.count_ours(row.updates()) <= lock::free_locks(&self.locks) {
             Ok(())
         } else {
             Err(Fault::board(Denial::NoLockPlaces))
@@ -79,7 +79,7 @@ impl Tables {
     pub fn polled_for(&self, row: &Row) -> u8
         ensures { result ≡ polled_for self.now.config (updates_of row.now) }
     {
-        self.config.polled_in(row.updates())
+        self.config.polled_for(row.updates())
     }
 
     /// The number of the board's next own row.

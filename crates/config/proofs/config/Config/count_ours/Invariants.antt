@@ -1,6 +1,6 @@
 use Rattle.std.proofs.Common.{◌≡◌, ◌+◌, ◌≤◌, drop}
 use Rattle.config.specs.Objects.{count_ours}
-use Rattle.config.proofs.config.Config.count_in.Given as goal
+use Rattle.config.proofs.config.Config.count_ours.Given as goal
 
 -- what was passed is counted
 abbrev pub invariant-loop-i : goal.invariant-loop-i

@@ -3,7 +3,7 @@ use Rattle.std.proofs.lemmas.List.{take_all}
 use Rattle.std.proofs.lemmas.List.Sums.{fold_more}
 use Rattle.record.specs.Rows.{no_update}
 use Rattle.config.specs.Objects.{polled_with}
-use Rattle.config.proofs.config.Config.polled_in.Goals as goal
+use Rattle.config.proofs.config.Config.polled_for.Goals as goal
 
 pub loop-update-preserved : goal.loop-update-preserved
 loop-update-preserved c =

@@ -2,8 +2,8 @@ use Rattle.std.proofs.Common.{sym, ◌∙◌}
 use Rattle.record.specs.Rows.{no_update}
 use Rattle.config.proofs.OurSteps.{ours_more, ours_all}
 use Rattle.config.proofs.Counts.{count_yes, count_no, count_end}
-use Rattle.config.proofs.config.Config.count_in.Goals.{then-counts, else-counts}
-use Rattle.config.proofs.config.Config.count_in.Goals as goal
+use Rattle.config.proofs.config.Config.count_ours.Goals.{then-counts, else-counts}
+use Rattle.config.proofs.config.Config.count_ours.Goals as goal
 
 pub loop-i-preserved : goal.loop-i-preserved
 loop-i-preserved c =
