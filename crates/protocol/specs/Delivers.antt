@@ -134,6 +134,10 @@ on_new_row s r answer =
       written = answer ∷ [];
     })
 
+-- a row that is here already is answered, and another one is taken
+abbrev pub on_row : State → Row → Record → Bool → Effect ℕ
+on_row s r answer is_here = cond is_here (sent s (answer ∷ [])) (on_new_row s r answer)
+
 abbrev pub on_propagate : State → Row → Effect ℕ
 on_propagate s r =
     let answer : List Record = ack s.tables.config r.number r.home ∷ [] in

@@ -3,7 +3,7 @@ ghost use Rattle.std.specs.Prelude.{◌≡◌};
 ghost use Rattle.config.specs.Durable.{is_durable};
 ghost use Rattle.bus.specs.Letters.{records_of};
 ghost use Rattle.bus.specs.declared.sending.Sending.TheVariants.{One};
-ghost use Rattle.protocol.specs.Delivers.{is_next, is_due, on_new_row, on_propagate, told, on_known_ack, on_ack, is_showable, shown, on_durable};
+ghost use Rattle.protocol.specs.Delivers.{is_next, is_due, on_new_row, on_row, on_propagate, told, on_known_ack, on_ack, is_showable, shown, on_durable};
 ghost use Rattle.protocol.specs.Effects.{state, counted, to_send, Acts};
 
 use bus::{Letter, Sending};
@@ -41,6 +41,23 @@ fn on_new_row<K: LogKeeper>(
     Ok(Sending::One(ack))
 }
 
+/// A row that is here already is acknowledged, and another one is taken.
+fn on_row<K: LogKeeper>(
+    log: &mut K,
+    tables: &mut Tables,
+    row: &Row,
+    ack: Record,
+    is_here: bool,
+) -> Result<Sending, Fault>
+    ensures { Acts (on_row (state tables.old (K.rows log.old) (K.capacity log.old)) row.now ack is_here) (counted tables.old.config result) (to_send tables.old.config result) (state tables.old (K.rows log.old) (K.capacity log.old)) (state tables.new (K.rows log.new) (K.capacity log.new)) }
+{
+    if is_here {
+        Ok(Sending::One(ack))
+    } else {
+        on_new_row(log, tables, row, ack)
+    }
+}
+
 /// PROPAGATE: a row is taken, and what is in the log is acknowledged.
 pub(crate) fn on_propagate<K: LogKeeper>(
     log: &mut K,
@@ -50,11 +67,8 @@ pub(crate) fn on_propagate<K: LogKeeper>(
     ensures { Acts (on_propagate (state tables.old (K.rows log.old) (K.capacity log.old)) row.now) (counted tables.old.config result) (to_send tables.old.config result) (state tables.old (K.rows log.old) (K.capacity log.old)) (state tables.new (K.rows log.new) (K.capacity log.new)) }
 {
     let ack = bus::ack(&tables.config, row.number, row.home);
-    if tables.got.covers(row.home, row.number) {
-        Ok(Sending::One(ack))
-    } else {
-        on_new_row(log, tables, row, ack)
-    }
+    let is_here = tables.got.covers(row.home, row.number);
+    on_row(log, tables, row, ack, is_here)
 }
 
 /// Tells that a row is durable: the sender of an ACK, if the row was before it, and all others, if it is by it.
