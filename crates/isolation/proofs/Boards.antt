@@ -11,7 +11,7 @@ use Rattle.tables.specs.Changes.{placed, locked, released, with_own, with_got, w
 use Rattle.tables.specs.Locks.{is_unlocked, free_locks}
 use Rattle.config.specs.Objects.{is_ours, writes, count_ours}
 use Rattle.tables.specs.Places.{is_free, has_serial, first_at, place_of, with_place}
-use Rattle.tables.specs.Transactions.{started, opened as openedBy, freed}
+use Rattle.tables.specs.Transactions.{started, opened as opened_by, freed}
 use Rattle.tables.specs.declared.place.Place.{Place}
 use Rattle.tables.specs.declared.place.Place.TheVariants.{Free, Open}
 use Rattle.tables.specs.declared.tables.Tables.{Tables}
@@ -111,10 +111,10 @@ module _ (g : Group) (x : Board) (s : State) (b : ℕ) (A : At g x s b) where
     later = A.later;
   }
 
-  pub at_started : first_at is_free x.tables.places < 8 → Placed g b x.tables.next (Open (openedBy x.tables)) (opened (openedBy x.tables))
-      → At g (with_tables x (started x.tables)) (with_phase s b x.tables.next (opened (openedBy x.tables))) b
+  pub at_started : first_at is_free x.tables.places < 8 → Placed g b x.tables.next (Open (opened_by x.tables)) (opened (opened_by x.tables))
+      → At g (with_tables x (started x.tables)) (with_phase s b x.tables.next (opened (opened_by x.tables))) b
   at_started room Q =
-      let r = openedBy x.tables in
+      let r = opened_by x.tables in
       let room' : first_at is_free x.tables.places < length x.tables.places = omega (arith, A.eight_places) in
       let was : s.phase b x.tables.next ≡ unknown = A.later x.tables.next (omega arith) in
       record {
