@@ -1,1 +1,4 @@
+mod Clearing
+mod Kept
 mod Outgoing
+mod Refusals

@@ -1,13 +1,10 @@
 -- The calls on an open transaction, and settle.
-use Rattle.std.specs.Prelude.{ℕ, Bool, List, ◌++◌, ℤ, Option}
-use Rattle.record.specs.declared.row.Row.{Row}
-use Rattle.record.specs.declared.row.Update.{Update}
-use Rattle.record.specs.Rows.{updates_of}
+use Rattle.std.specs.Prelude.{ℕ, Bool, ℤ, Option}
 use Rattle.merging.specs.Values.{value_after}
-use Rattle.queries.specs.Walks.{word_of}
+use Rattle.queries.specs.Walks.{visible, word_of}
 use Rattle.tables.specs.Transactions as tables
-use Rattle.protocol.specs.Effects.{State, Effect, answered, or_refused, on_tables}
-use Rattle.record.specs.Updates.{covered_updates, last_put}
+use Rattle.board.specs.Effects.{State, Effect, answered, or_refused, on_tables}
+use Rattle.record.specs.Updates.{last_put}
 
 abbrev pub start : State → Effect ℕ
 start s = on_tables s (tables.start s.tables)
@@ -28,14 +25,10 @@ settle s home serial = on_tables s (tables.settle s.tables home serial)
 
 -- ## Read and look
 
--- what the transaction sees: the covered rows in the order of the log, and then its own updates
-abbrev pub visible : State → Row → List Update
-visible s r = covered_updates s.rows r.start ++ updates_of r
-
 abbrev pub read : State → ℕ → ℕ → ℕ → Effect (Option ℕ)
 read s home serial object =
-    or_refused s (tables.readable s.tables home serial object 0) (λ r. answered s (word_of (last_put object (visible s r))))
+    or_refused s (tables.readable s.tables home serial object 0) (λ r. answered s (word_of (last_put object (visible s.rows r))))
 
 abbrev pub look : {V : Type 0} → ℕ → V → (V → ℤ → V) → State → ℕ → ℕ → ℕ → ℕ → Effect V
 look kind first step s home serial object element =
-    or_refused s (tables.readable s.tables home serial object kind) (λ r. answered s (value_after step object element first (visible s r)))
+    or_refused s (tables.readable s.tables home serial object kind) (λ r. answered s (value_after step object element first (visible s.rows r)))

@@ -8,8 +8,8 @@ use keeper::LogKeeper;
 use record::{Denial, Fault};
 use tables::Tables;
 
-/// One board of a group. Its tables are those of a group of at most eight boards, and its own number is one of them, so
-/// that there are at most seven others to write to.
+/// One board of a group. Its group has at most eight boards, and its own number is one of them, so that there are at most seven
+/// others to write to.
 #[derive(Drop)]
 pub struct Board<K: LogKeeper> {
     pub(crate) log: K,
@@ -25,7 +25,7 @@ impl<K: LogKeeper> Board<K> {
         if log.fit() && log.count() == 0 {
             config.check(first_serial)
         } else {
-            Err(Fault::keeper(Denial::Build))
+            Err(Fault::Keeper(Denial::Build))
         }
     }
 

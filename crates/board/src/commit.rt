@@ -1,7 +1,7 @@
 //! Commit: a transaction is committed, aborted, or waits for votes.
 ghost use Rattle.std.specs.Prelude.{◌≡◌, length};
-ghost use Rattle.protocol.specs.Commits.{commit};
-ghost use Rattle.protocol.specs.Effects.{state, outgoing};
+ghost use Rattle.board.specs.Commits.{commit, plain_in};
+ghost use Rattle.board.specs.Effects.{state_of, outgoing, leaves};
 ghost use Rattle.board.specs.Tokens.{commit_answer};
 
 use crate::board::Board;
@@ -9,52 +9,39 @@ use crate::open::{CommitAnswer, OpenTransaction};
 use crate::outbox;
 use crate::waiting::WaitingTransaction;
 use keeper::LogKeeper;
-use record::Fault;
-use tables::outcome;
+use record::{Fault, TransactionId};
+use tables::Outcome;
 
 impl<K: LogKeeper> Board<K> {
-    /// Commit, by home and serial.
-    fn commit_named(
-        &mut self,
-        home: u8,
-        serial: u32,
-        out: &mut [u8],
-    ) -> Result<(u8, u16, usize), Fault>
-        ensures answer { result ≡ (commit (state self.old.tables (K.rows self.old.log) (K.capacity self.old.log)) home serial (length out.old)).answer }
-        ensures tables { self.new.tables ≡ (commit (state self.old.tables (K.rows self.old.log) (K.capacity self.old.log)) home serial (length out.old)).tables }
-        ensures rows { K.rows self.new.log ≡ (commit (state self.old.tables (K.rows self.old.log) (K.capacity self.old.log)) home serial (length out.old)).rows }
-        ensures capacity { K.capacity self.new.log ≡ K.capacity self.old.log }
-        ensures out { out.new ≡ outgoing out.old (commit (state self.old.tables (K.rows self.old.log) (K.capacity self.old.log)) home serial (length out.old)).written }
+    /// Commits the transaction with this name, and answers what became of it and how many records were written.
+    fn commit_by_id(&mut self, id: TransactionId, out: &mut [u8]) -> Result<(Outcome, usize), Fault>
+        ensures answer { plain_in result ≡ (commit (state_of self.old) id.home id.serial (length out.old)).answer }
+        ensures board { state_of self.new ≡ leaves (state_of self.old) (commit (state_of self.old) id.home id.serial (length out.old)) }
+        ensures out { out.new ≡ outgoing out.old (commit (state_of self.old) id.home id.serial (length out.old)).written }
     {
-        let row = self.tables.open_row(home, serial)?;
+        let row = self.tables.open_row(id)?;
         outbox::fit(out)?;
-        let (outcome, number, sending) = protocol::try_to_commit(
-            &mut self.log,
-            &mut self.tables,
-            &row,
-        )?;
+        let (outcome, sending) = self.try_to_commit(&row)?;
         let count = outbox::post(&self.tables.config, out, &sending);
-        Ok((outcome, number, count))
+        Ok((outcome, count))
     }
 
     /// Commits an open transaction, or asks the boards that must agree.
     pub fn commit(&mut self, of: OpenTransaction, out: &mut [u8]) -> CommitAnswer
-        ensures answer { result ≡ commit_answer of (commit (state self.old.tables (K.rows self.old.log) (K.capacity self.old.log)) of.home of.serial (length out.old)).answer }
-        ensures tables { self.new.tables ≡ (commit (state self.old.tables (K.rows self.old.log) (K.capacity self.old.log)) of.home of.serial (length out.old)).tables }
-        ensures rows { K.rows self.new.log ≡ (commit (state self.old.tables (K.rows self.old.log) (K.capacity self.old.log)) of.home of.serial (length out.old)).rows }
-        ensures capacity { K.capacity self.new.log ≡ K.capacity self.old.log }
-        ensures out { out.new ≡ outgoing out.old (commit (state self.old.tables (K.rows self.old.log) (K.capacity self.old.log)) of.home of.serial (length out.old)).written }
+        ensures answer { result ≡ commit_answer of (commit (state_of self.old) of.id.home of.id.serial (length out.old)).answer }
+        ensures board { state_of self.new ≡ leaves (state_of self.old) (commit (state_of self.old) of.id.home of.id.serial (length out.old)) }
+        ensures out { out.new ≡ outgoing out.old (commit (state_of self.old) of.id.home of.id.serial (length out.old)).written }
     {
-        match self.commit_named(of.home, of.serial, out) {
-            Ok(answer) => {
-                let OpenTransaction { home, serial } = of;
-                if answer.0 == outcome::WAITING {
-                    CommitAnswer::Waits(WaitingTransaction { home, serial }, answer)
-                } else {
-                    CommitAnswer::Ended(answer)
-                }
+        match self.commit_by_id(of.id, out) {
+            Ok((outcome, count)) => {
+                let OpenTransaction { id } = of;
+                let waiting = match outcome {
+                    Outcome::Waiting => Some(WaitingTransaction { id }),
+                    Outcome::Committed(_) | Outcome::Aborted => None,
+                };
+                Ok(((outcome.code(), outcome.number(), count), waiting))
             }
-            Err(fault) => CommitAnswer::Denied(of, fault),
+            Err(fault) => Err((of, fault)),
         }
     }
 }

@@ -1,7 +1,7 @@
 //! Deliver: what a board does with a record that is brought to it.
 ghost use Rattle.std.specs.Prelude.{◌≡◌, ◌≤◌, length};
-ghost use Rattle.protocol.specs.Delivers.{acted, deliver};
-ghost use Rattle.protocol.specs.Effects.{state, outgoing};
+ghost use Rattle.board.specs.Delivers.{acted, deliver};
+ghost use Rattle.board.specs.Effects.{state_of, outgoing, leaves};
 
 use crate::board::Board;
 use crate::outbox;
@@ -10,28 +10,24 @@ use record::{Fault, Record};
 
 impl<K: LogKeeper> Board<K> {
     /// Acts on a record by its kind, and writes what that has to tell others.
-    fn act_on(&mut self, record: &Record, out: &mut [u8]) -> Result<usize, Fault>
+    fn take(&mut self, record: &Record, out: &mut [u8]) -> Result<usize, Fault>
         requires { 448 ≤ length out.old }
-        ensures answer { result ≡ (acted (state self.old.tables (K.rows self.old.log) (K.capacity self.old.log)) «record».now).answer }
-        ensures tables { self.new.tables ≡ (acted (state self.old.tables (K.rows self.old.log) (K.capacity self.old.log)) «record».now).tables }
-        ensures rows { K.rows self.new.log ≡ (acted (state self.old.tables (K.rows self.old.log) (K.capacity self.old.log)) «record».now).rows }
-        ensures capacity { K.capacity self.new.log ≡ K.capacity self.old.log }
-        ensures out { out.new ≡ outgoing out.old (acted (state self.old.tables (K.rows self.old.log) (K.capacity self.old.log)) «record».now).written }
+        ensures answer { result ≡ (acted (state_of self.old) «record».now).answer }
+        ensures board { state_of self.new ≡ leaves (state_of self.old) (acted (state_of self.old) «record».now) }
+        ensures out { out.new ≡ outgoing out.old (acted (state_of self.old) «record».now).written }
     {
-        let sending = protocol::act_on(&mut self.log, &mut self.tables, record)?;
+        let sending = self.act_on(record)?;
         Ok(outbox::post(&self.tables.config, out, &sending))
     }
 
     /// Takes a record from the bus, acts by its kind, and answers how many records were written.
     pub fn deliver(&mut self, bytes: &[u8], out: &mut [u8]) -> Result<usize, Fault>
-        ensures answer { result ≡ (deliver (state self.old.tables (K.rows self.old.log) (K.capacity self.old.log)) bytes.now (length out.old)).answer }
-        ensures tables { self.new.tables ≡ (deliver (state self.old.tables (K.rows self.old.log) (K.capacity self.old.log)) bytes.now (length out.old)).tables }
-        ensures rows { K.rows self.new.log ≡ (deliver (state self.old.tables (K.rows self.old.log) (K.capacity self.old.log)) bytes.now (length out.old)).rows }
-        ensures capacity { K.capacity self.new.log ≡ K.capacity self.old.log }
-        ensures out { out.new ≡ outgoing out.old (deliver (state self.old.tables (K.rows self.old.log) (K.capacity self.old.log)) bytes.now (length out.old)).written }
+        ensures answer { result ≡ (deliver (state_of self.old) bytes.now (length out.old)).answer }
+        ensures board { state_of self.new ≡ leaves (state_of self.old) (deliver (state_of self.old) bytes.now (length out.old)) }
+        ensures out { out.new ≡ outgoing out.old (deliver (state_of self.old) bytes.now (length out.old)).written }
     {
         outbox::fit(out)?;
         let record = bus::receive(&self.tables.config, bytes)?;
-        self.act_on(&record, out)
+        self.take(&record, out)
     }
 }

@@ -1,12 +1,18 @@
-//! The calls of a board.
+//! A board and its calls.
 #![tactic(auto)]
 
+mod act;
+mod agree;
 mod board;
 mod commit;
+mod decide;
 mod deliver;
+mod due;
 mod open;
 mod outbox;
+mod own;
 mod resend;
+mod spread;
 mod transactions;
 mod waiting;
 

@@ -1,8 +1,8 @@
 //! The outgoing buffer: records laid one behind the other.
 ghost use Rattle.std.specs.Prelude.{◌≡◌, ◌+◌, ◌*◌, ◌<◌, ◌≤◌, true, [], ◌∷◌, length, if◌then◌else◌};
 ghost use Rattle.record.specs.Layout.{bytes_of, written};
-ghost use Rattle.protocol.specs.Commits.{buffer_fits};
-ghost use Rattle.protocol.specs.Effects.{outgoing};
+ghost use Rattle.board.specs.Commits.{buffer_fits};
+ghost use Rattle.board.specs.Effects.{outgoing};
 ghost use Rattle.bus.specs.Letters.{letter_to, goes_to, letters_of, records_of};
 
 use bus::{Letter, Sending};
@@ -14,7 +14,7 @@ pub(crate) fn fit(out: &[u8]) -> Result<(), Fault>
     ensures { result ≡ buffer_fits (length out.now) }
 {
     if out.len() < 448 {
-        Err(Fault::board(Denial::ShortBuffer))
+        Err(Fault::Board(Denial::ShortBuffer))
     } else {
         Ok(())
     }
@@ -47,6 +47,7 @@ fn send(config: &Config, out: &mut [u8], letter: &Letter) -> usize
     ensures count { result ≡ length (letters_of config.now letter.now) }
     ensures after { out.new ≡ outgoing out.old (letters_of config.now letter.now) }
 {
+    // A loop that counts: with `filter` on the boards the proof of what the buffer holds after each did not close.
     let mut count = 0;
     for board in 0..config.boards {
         count = send_to(config, out, count, letter, board);

@@ -1,6 +1,6 @@
 //! The calls on an open transaction, and settle.
 ghost use Rattle.std.specs.Prelude.{◌≡◌};
-ghost use Rattle.protocol.specs.Effects.{state};
+ghost use Rattle.board.specs.Effects.{state_of, leaves};
 ghost use Rattle.board.specs.Tokens.{token_from, abandon_answer, settle_answer};
 ghost use Rattle.board.specs.Transactions.{start, put, merge, read, look, abandon, settle};
 
@@ -8,31 +8,27 @@ use crate::board::Board;
 use crate::open::OpenTransaction;
 use crate::waiting::{SettleAnswer, WaitingTransaction};
 use keeper::LogKeeper;
-use merging::MergingKind;
-use record::Fault;
-use tables::outcome;
+use merging::{ElementId, MergingKind};
+use record::{Fault, Update};
+use tables::Outcome;
 
 impl<K: LogKeeper> Board<K> {
     /// Starts a transaction that sees what the board has committed.
     pub fn start(&mut self) -> Result<OpenTransaction, Fault>
-        ensures answer { result ≡ token_from self.old.tables.config.own (start (state self.old.tables (K.rows self.old.log) (K.capacity self.old.log))).answer }
-        ensures tables { self.new.tables ≡ (start (state self.old.tables (K.rows self.old.log) (K.capacity self.old.log))).tables }
-        ensures rows { K.rows self.new.log ≡ K.rows self.old.log }
-        ensures capacity { K.capacity self.new.log ≡ K.capacity self.old.log }
+        ensures answer { result ≡ token_from self.old.tables.config.own (start (state_of self.old)).answer }
+        ensures board { state_of self.new ≡ leaves (state_of self.old) (start (state_of self.old)) }
     {
         let serial = self.tables.start()?;
-        let home = self.tables.config.own;
-        Ok(OpenTransaction { home, serial })
+        let id = self.tables.own_id(serial);
+        Ok(OpenTransaction { id })
     }
 
     /// Gives a regular object another word.
     pub fn put(&mut self, of: &OpenTransaction, object: u16, word: u32) -> Result<(), Fault>
-        ensures answer { result ≡ (put (state self.old.tables (K.rows self.old.log) (K.capacity self.old.log)) of.now.home of.now.serial object word).answer }
-        ensures tables { self.new.tables ≡ (put (state self.old.tables (K.rows self.old.log) (K.capacity self.old.log)) of.now.home of.now.serial object word).tables }
-        ensures rows { K.rows self.new.log ≡ K.rows self.old.log }
-        ensures capacity { K.capacity self.new.log ≡ K.capacity self.old.log }
+        ensures answer { result ≡ (put (state_of self.old) of.now.id.home of.now.id.serial object word).answer }
+        ensures board { state_of self.new ≡ leaves (state_of self.old) (put (state_of self.old) of.now.id.home of.now.id.serial object word) }
     {
-        self.tables.put(of.home, of.serial, object, word)
+        self.tables.put(of.id, object, word)
     }
 
     /// Steps an element of an object of a merging kind.
@@ -43,27 +39,23 @@ impl<K: LogKeeper> Board<K> {
         element: u16,
         operand: i32,
     ) -> Result<(), Fault>
-        ensures answer { result ≡ (merge (state self.old.tables (K.rows self.old.log) (K.capacity self.old.log)) M.number (M.admitted operand) of.now.home of.now.serial object element operand).answer }
-        ensures tables { self.new.tables ≡ (merge (state self.old.tables (K.rows self.old.log) (K.capacity self.old.log)) M.number (M.admitted operand) of.now.home of.now.serial object element operand).tables }
-        ensures rows { K.rows self.new.log ≡ K.rows self.old.log }
-        ensures capacity { K.capacity self.new.log ≡ K.capacity self.old.log }
+        ensures answer { result ≡ (merge (state_of self.old) M.NUMBER (M.admitted operand) of.now.id.home of.now.id.serial object element operand).answer }
+        ensures board { state_of self.new ≡ leaves (state_of self.old) (merge (state_of self.old) M.NUMBER (M.admitted operand) of.now.id.home of.now.id.serial object element operand) }
     {
-        self.tables.merge(
-            M::kind_number(),
-            M::admits(operand),
-            of.home,
-            of.serial,
+        let update = Update {
             object,
             element,
             operand,
-        )
+        };
+        self.tables
+            .merge(of.id, M::NUMBER, M::admits(operand), update)
     }
 
     /// The word of a regular object as the transaction sees it; nil where none was ever put.
     pub fn read(&self, of: &OpenTransaction, object: u16) -> Result<Option<u32>, Fault>
-        ensures { result ≡ (read (state self.now.tables (K.rows self.now.log) (K.capacity self.now.log)) of.now.home of.now.serial object).answer }
+        ensures { result ≡ (read (state_of self.now) of.now.id.home of.now.id.serial object).answer }
     {
-        let row = self.tables.readable(of.home, of.serial, object, 0)?;
+        let row = self.tables.readable(of.id, object, 0)?;
         Ok(queries::word_seen(&self.log, &row, object))
     }
 
@@ -74,24 +66,21 @@ impl<K: LogKeeper> Board<K> {
         object: u16,
         element: u16,
     ) -> Result<M::Value, Fault>
-        ensures { result ≡ (look M.number M.origin M.stepped (state self.now.tables (K.rows self.now.log) (K.capacity self.now.log)) of.now.home of.now.serial object element).answer }
+        ensures { result ≡ (look M.NUMBER M.origin M.stepped (state_of self.now) of.now.id.home of.now.id.serial object element).answer }
     {
-        let row = self
-            .tables
-            .readable(of.home, of.serial, object, M::kind_number())?;
-        Ok(queries::value_seen::<M, K>(&self.log, &row, object, element))
+        let row = self.tables.readable(of.id, object, M::NUMBER)?;
+        let of_element = ElementId { object, element };
+        Ok(queries::value_seen::<M, K>(&self.log, &row, of_element))
     }
 
     /// Ends an open transaction, as if it had never been.
     pub fn abandon(&mut self, of: OpenTransaction) -> Result<(), (OpenTransaction, Fault)>
-        ensures answer { result ≡ abandon_answer of (abandon (state self.old.tables (K.rows self.old.log) (K.capacity self.old.log)) of.home of.serial).answer }
-        ensures tables { self.new.tables ≡ (abandon (state self.old.tables (K.rows self.old.log) (K.capacity self.old.log)) of.home of.serial).tables }
-        ensures rows { K.rows self.new.log ≡ K.rows self.old.log }
-        ensures capacity { K.capacity self.new.log ≡ K.capacity self.old.log }
+        ensures answer { result ≡ abandon_answer of (abandon (state_of self.old) of.id.home of.id.serial).answer }
+        ensures board { state_of self.new ≡ leaves (state_of self.old) (abandon (state_of self.old) of.id.home of.id.serial) }
     {
-        match self.tables.abandon(of.home, of.serial) {
+        match self.tables.abandon(of.id) {
             Ok(()) => {
-                let OpenTransaction { home: _, serial: _ } = of;
+                let OpenTransaction { id: _ } = of;
                 Ok(())
             }
             Err(fault) => Err((of, fault)),
@@ -100,20 +89,13 @@ impl<K: LogKeeper> Board<K> {
 
     /// What became of a transaction that waited.
     pub fn settle(&mut self, of: WaitingTransaction) -> SettleAnswer
-        ensures answer { result ≡ settle_answer of (settle (state self.old.tables (K.rows self.old.log) (K.capacity self.old.log)) of.home of.serial).answer }
-        ensures tables { self.new.tables ≡ (settle (state self.old.tables (K.rows self.old.log) (K.capacity self.old.log)) of.home of.serial).tables }
-        ensures rows { K.rows self.new.log ≡ K.rows self.old.log }
-        ensures capacity { K.capacity self.new.log ≡ K.capacity self.old.log }
+        ensures answer { result ≡ settle_answer of (settle (state_of self.old) of.id.home of.id.serial).answer }
+        ensures board { state_of self.new ≡ leaves (state_of self.old) (settle (state_of self.old) of.id.home of.id.serial) }
     {
-        match self.tables.settle(of.home, of.serial) {
-            Ok(answer) => {
-                if answer.0 == outcome::WAITING {
-                    SettleAnswer::Waits(of, answer)
-                } else {
-                    SettleAnswer::Ended(answer)
-                }
-            }
-            Err(fault) => SettleAnswer::Denied(of, fault),
+        match self.tables.settle(of.id) {
+            Ok(Outcome::Waiting) => Ok(((Outcome::Waiting.code(), 0), Some(of))),
+            Ok(outcome) => Ok(((outcome.code(), outcome.number()), None)),
+            Err(fault) => Err((of, fault)),
         }
     }
 }

@@ -1,9 +1,9 @@
 //! Objects of the merging kinds.
-use crate::play::{COUNT, MARK, NOWHERE, OURS, OUT, build, commit, denial, end};
+use crate::play::{COUNT, MARK, NOWHERE, OURS, OUT, build, commit, end, part};
 use board::{Board, OpenTransaction};
 use keeper::{LogKeeper, RecordArea, RowTable};
 use merging::{Count, HighestMark};
-use record::{Fault, Row};
+use record::{Denial, Fault, Row};
 use std::test::Fail;
 
 /// Two steps of one count, one of a neighbour, and a mark.
@@ -31,11 +31,15 @@ fn steps<K: LogKeeper>(board: &mut Board<K>, of: &OpenTransaction) -> Result<boo
     four_updates(board, of)?;
     let after = values(board, of)?;
     let fifth = board.merge::<Count>(of, COUNT, 5, 1).err();
-    Ok(before == (0, 0, None) && after == (2, -1, Some(-3)) && fifth == Some(denial(8)))
+    Ok(
+        before == (0, 0, None)
+            && after == (2, -1, Some(-3))
+            && fifth == Some(Fault::Board(Denial::FourUpdates)),
+    )
 }
 
 fn counts_and_marks<K: LogKeeper + Drop>(log: K) -> Result<bool, Fault> {
-    let mut board = build(log, 0)?;
+    let mut board = build(log, &part(0, 2))?;
     let of = board.start()?;
     let seen = steps(&mut board, &of);
     let answer = commit(&mut board, of, &mut OUT)?;
@@ -53,7 +57,7 @@ fn steps_are_seen_within_and_after(rt: HostRuntime) -> Result<(), Fail> {
 
 /// Whether objects of no listed container are denied with 6, whatever the kind.
 fn unlisted<K: LogKeeper>(board: &mut Board<K>, of: &OpenTransaction) -> bool {
-    let no = Some(denial(6));
+    let no = Some(Fault::Board(Denial::Unlisted));
     board.merge::<Count>(of, NOWHERE, 0, 2).err() == no
         && board.put(of, NOWHERE, 1).err() == no
         && board.read(of, NOWHERE).err() == no
@@ -62,7 +66,7 @@ fn unlisted<K: LogKeeper>(board: &mut Board<K>, of: &OpenTransaction) -> bool {
 
 /// Whether changes of another kind are denied with 7, and operands that the kind does not admit.
 fn misfits<K: LogKeeper>(board: &mut Board<K>, of: &OpenTransaction) -> bool {
-    let no = Some(denial(7));
+    let no = Some(Fault::Board(Denial::KindDiffers));
     board.merge::<Count>(of, MARK, 0, 1).err() == no
         && board.merge::<HighestMark>(of, COUNT, 0, 1).err() == no
         && board.merge::<Count>(of, OURS, 0, 1).err() == no
@@ -72,14 +76,14 @@ fn misfits<K: LogKeeper>(board: &mut Board<K>, of: &OpenTransaction) -> bool {
 
 /// Whether values of another kind are denied with 7.
 fn mislooks<K: LogKeeper>(board: &Board<K>, of: &OpenTransaction) -> bool {
-    let no = Some(denial(7));
+    let no = Some(Fault::Board(Denial::KindDiffers));
     board.read(of, MARK).err() == no
         && board.look::<Count>(of, MARK, 0).err() == no
         && board.look::<HighestMark>(of, OURS, 0).err() == no
 }
 
 fn denies<K: LogKeeper + Drop>(log: K) -> Result<bool, Fault> {
-    let mut board = build(log, 0)?;
+    let mut board = build(log, &part(0, 2))?;
     let of = board.start()?;
     let denied = unlisted(&mut board, &of) && misfits(&mut board, &of) && mislooks(&board, &of);
     // Nothing stands of what was denied: the commit has no updates.

@@ -1,6 +1,6 @@
 //! What every play needs: boards of one group, and transactions that come to an end on every path.
 //! A play answers whether all went as it should, or the fault of a call that should have been taken.
-use board::{Board, CommitAnswer, OpenTransaction};
+use board::{Board, OpenTransaction};
 use config::{Config, Container};
 use keeper::LogKeeper;
 use record::Fault;
@@ -19,38 +19,35 @@ pub(crate) const MARK: u16 = 768;
 /// An object of the first container that is not listed.
 pub(crate) const NOWHERE: u16 = 1024;
 
-/// What a board is built with in a group that may lose one board.
-pub(crate) fn part(own: u8, boards: u8) -> Config {
+/// What a board is built with in a group that may lose one board: container 0 is preferred on board 0, and container 1 on board 1.
+pub(crate) fn member(own: u8, boards: u8) -> Config {
     let mut containers = [Container {
         preferred: 0,
         kind: 0,
     }; 64];
     containers[1].preferred = 1;
-    containers[2].kind = 1;
-    containers[3].kind = 2;
     Config {
         own,
         boards,
         losses: 1,
-        listed: 4,
+        listed: 2,
         containers,
     }
 }
 
-/// A fresh board in a group of two, whose first transaction has serial 1.
-pub(crate) fn build<K: LogKeeper + Drop>(log: K, own: u8) -> Result<Board<K>, Fault> {
-    let config = part(own, 2);
-    Board::check(&log, &config, 1)?;
-    Ok(Board::make(log, &config, 1))
+/// The same with a container of counts and one of highest marks.
+pub(crate) fn part(own: u8, boards: u8) -> Config {
+    let mut config = member(own, boards);
+    config.listed = 4;
+    config.containers[2].kind = 1;
+    config.containers[3].kind = 2;
+    config
 }
 
-/// A denial by the board.
-pub(crate) fn denial(number: u8) -> Fault {
-    Fault {
-        layer: 2,
-        number,
-        place: 0,
-    }
+/// A fresh board, whose first transaction has serial 1.
+pub(crate) fn build<K: LogKeeper + Drop>(log: K, config: &Config) -> Result<Board<K>, Fault> {
+    Board::check(&log, config, 1)?;
+    Ok(Board::make(log, config, 1))
 }
 
 /// Abandons a transaction. Were that denied, the play fails, and the transaction is left behind: no safe code can let it go.
@@ -87,13 +84,31 @@ pub(crate) fn commit<K: LogKeeper>(
     out: &mut [u8],
 ) -> Result<(u8, u16, usize), Fault> {
     match board.commit(of, out) {
-        CommitAnswer::Ended(answer) => Ok(answer),
-        CommitAnswer::Waits(_, answer) => Ok(answer),
-        CommitAnswer::Denied(of, fault) => {
+        Ok((answer, _)) => Ok(answer),
+        Err((of, fault)) => {
             end(board, of);
             Err(fault)
         }
     }
+}
+
+/// Puts one word in a transaction of its own, and commits it.
+pub(crate) fn change<K: LogKeeper>(
+    board: &mut Board<K>,
+    object: u16,
+    word: u32,
+    out: &mut [u8],
+) -> Result<(u8, u16, usize), Fault> {
+    let of = begin(board, object, word)?;
+    commit(board, of, out)
+}
+
+/// What a fresh transaction reads of an object.
+pub(crate) fn value<K: LogKeeper>(board: &mut Board<K>, object: u16) -> Result<Option<u32>, Fault> {
+    let of = board.start()?;
+    let value = board.read(&of, object);
+    end(board, of);
+    value
 }
 
 /// An outgoing buffer.

@@ -1,8 +1,8 @@
 //! Transactions that start and end on their home, and that other boards do not know.
-use crate::play::{OURS, OUT, THEIRS, begin, build, commit, denial, end, part};
-use board::{Board, CommitAnswer, OpenTransaction};
+use crate::play::{OURS, OUT, THEIRS, begin, build, commit, end, part};
+use board::{Board, OpenTransaction};
 use keeper::{LogKeeper, RowTable};
-use record::{Fault, Row};
+use record::{Denial, Fault, Row};
 use std::test::Fail;
 
 fn can_start<K: LogKeeper>(board: &mut Board<K>) -> bool {
@@ -15,7 +15,7 @@ fn can_start<K: LogKeeper>(board: &mut Board<K>) -> bool {
 /// Starts so many transactions, each while those before it are open, and one more that is denied. When one is abandoned, another can start.
 fn fills<K: LogKeeper>(board: &mut Board<K>, places: u8) -> bool {
     match board.start() {
-        Err(fault) => places == 0 && fault == denial(9),
+        Err(fault) => places == 0 && fault == Fault::Board(Denial::NoPlace),
         Ok(of) => {
             let rest = places > 0 && fills(board, places - 1);
             end(board, of) && can_start(board) && rest
@@ -24,7 +24,7 @@ fn fills<K: LogKeeper>(board: &mut Board<K>, places: u8) -> bool {
 }
 
 fn fills_up<K: LogKeeper + Drop>(log: K) -> Result<bool, Fault> {
-    let mut board = build(log, 0)?;
+    let mut board = build(log, &part(0, 2))?;
     Ok(fills(&mut board, 8))
 }
 
@@ -42,7 +42,7 @@ fn spends_the_last_serial<K: LogKeeper + Drop>(log: K) -> Result<bool, Fault> {
         return Ok(false);
     }
     match board.start() {
-        Err(fault) => Ok(fault == denial(10)),
+        Err(fault) => Ok(fault == Fault::Board(Denial::SerialsSpent)),
         Ok(of) => {
             end(&mut board, of);
             Ok(false)
@@ -61,11 +61,7 @@ fn denied_commit<K: LogKeeper>(
     board: &mut Board<K>,
     of: OpenTransaction,
 ) -> Option<(OpenTransaction, Fault)> {
-    match board.commit(of, &mut OUT) {
-        CommitAnswer::Denied(of, fault) => Some((of, fault)),
-        CommitAnswer::Ended(_) => None,
-        CommitAnswer::Waits(_, _) => None,
-    }
+    board.commit(of, &mut OUT).err()
 }
 
 /// Tries a transaction on a board that is not its home. It comes back, and with it whether each call was denied with 4.
@@ -79,7 +75,7 @@ fn goes_abroad<K: LogKeeper>(
     match board.abandon(of) {
         Ok(()) => None,
         Err((of, abandon)) => {
-            let unknown = denial(4);
+            let unknown = Fault::Board(Denial::NoTransaction);
             let early = put == Some(unknown) && read == Some(unknown);
             Some((of, early && commit == unknown && abandon == unknown))
         }
@@ -88,8 +84,8 @@ fn goes_abroad<K: LogKeeper>(
 
 /// The other board has an open transaction with the same serial, which must not be taken for this one.
 fn denied_abroad<K: LogKeeper + Drop>(home: K, abroad: K) -> Result<bool, Fault> {
-    let mut home = build(home, 0)?;
-    let mut abroad = build(abroad, 1)?;
+    let mut home = build(home, &part(0, 2))?;
+    let mut abroad = build(abroad, &part(1, 2))?;
     let of = home.start()?;
     let like_it = abroad.start();
     let tried = goes_abroad(&mut abroad, of);
@@ -116,7 +112,7 @@ fn another_board_does_not_know_it(rt: HostRuntime) -> Result<(), Fail> {
 
 /// Two transactions put one object, and the first to commit wins.
 fn one_wins<K: LogKeeper + Drop>(log: K) -> Result<bool, Fault> {
-    let mut board = build(log, 0)?;
+    let mut board = build(log, &part(0, 2))?;
     let first = begin(&mut board, OURS, 1)?;
     let second = begin(&mut board, OURS, 2);
     let won = commit(&mut board, first, &mut OUT);

@@ -30,7 +30,7 @@ pub fn vote(config: &Config, receiver: u8, is_yes: bool, serial: u32) -> Record
         RecordKind::Vote,
         config.own,
         receiver,
-        if is_yes { 1 } else { 0 },
+        u8::from(is_yes),
         serial,
         0,
     )
@@ -81,9 +81,8 @@ impl Letter {
             Letter::PrepareAgain(_, polled, agreed) => {
                 board_set::has(*polled, board) && !board_set::has(*agreed, board)
             }
-            Letter::Propagate(_) => true,
+            Letter::Propagate(_) | Letter::Durable(_) => true,
             Letter::Abort(_, agreed) => board_set::has(*agreed, board),
-            Letter::Durable(_) => true,
             Letter::Reminder(row, acknowledged, is_durable) => {
                 !acknowledged.covers(board, row.number) || *is_durable
             }
@@ -101,8 +100,9 @@ impl Letter {
         ensures { result ≡ letter_to config.now self.now board }
     {
         match self {
-            Letter::Prepare(row, _) => row.to_record(RecordKind::Prepare, board),
-            Letter::PrepareAgain(row, _, _) => row.to_record(RecordKind::Prepare, board),
+            Letter::Prepare(row, _) | Letter::PrepareAgain(row, _, _) => {
+                row.to_record(RecordKind::Prepare, board)
+            }
             Letter::Propagate(row) => row.to_record(RecordKind::Propagate, board),
             Letter::Abort(serial, _) => abort(config, *serial, board),
             Letter::Durable(number) => durable(config, *number, board),

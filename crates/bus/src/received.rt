@@ -1,122 +1,77 @@
 //! What only the group can judge of a record that is brought to one of its boards.
-ghost use Rattle.std.specs.Prelude.{◌≡◌, ◌+◌, ◌*◌, ◌<◌, ◌≤◌, length, drop, ◌==◌};
-ghost use Rattle.record.specs.Kinds.{code_of};
+ghost use Rattle.std.specs.Prelude.{◌≡◌, ◌+◌, ◌*◌, ◌<◌, drop};
+ghost use Rattle.record.specs.Codec.{unless};
 ghost use Rattle.record.specs.Rows.{updates_of};
-ghost use Rattle.record.specs.Rules.{first, clock_rules};
-ghost use Rattle.bus.specs.Received.{stranger_rules, update_rules, part_rules, carried_updates, body_rules, group_rules, is_addressed, received};
+ghost use Rattle.record.specs.Rules.{first};
+ghost use Rattle.bus.specs.Received.{stranger_rules, update_rules, part_rules, carried_updates, group_rules, is_addressed, received};
 
 use config::Config;
 use record::{Clock, Denial, Fault, Record, RecordKind, Row, Update};
 
-/// The place of the first of some clock entries that is not 0.
-fn first_nonzero(entries: &[u16], from: u32) -> Option<u32>
-    requires { (from < 64) × (length entries.now ≤ 8) }
-    ensures { result ≡ first (clock_rules 0 from entries.now) }
+/// Denies a clock entry that is not 0, of a board that the group does not have.
+fn check_clock(config: &Config, clock: &Clock) -> Result<(), Fault>
+    ensures { result ≡ unless (first (stranger_rules (12 + 2 * config.now.boards) (drop config.now.boards clock.now.entries))) tt }
 {
-    let mut place = from;
-    for entry in entries {
-        if *entry > 0 {
-            return Some(place);
-        }
-        place += 2;
-    }
-    None
-}
-
-/// The place of the first clock entry of a board that the group does not have, and that is not 0.
-fn clock_offence(config: &Config, clock: &Clock) -> Option<u32>
-    ensures { result ≡ first (stranger_rules (12 + 2 * config.now.boards) (drop config.now.boards clock.now.entries)) }
-{
-    if config.boards >= 8 {
-        return None;
-    }
-    let boards = config.boards as usize;
     let place = 12 + 2 * config.boards as u32;
-    first_nonzero(&clock.entries[boards..], place)
+    let counted = clock
+        .entries
+        .iter()
+        .skip(config.boards as usize)
+        .position(|entry| *entry > 0);
+    counted.map_or(Ok(()), |i| Err(Fault::Record(place + 2 * i as u32)))
 }
 
-/// The first part of an update that is not one of the group: a container that is not listed, an element of a regular object.
-fn update_offence(config: &Config, place: u32, update: &Update) -> Option<u32>
+/// Denies an update of a container that is not listed, or of an element of a regular object.
+fn check_update(config: &Config, place: u32, update: &Update) -> Result<(), Fault>
     requires { place < 64 }
-    ensures { result ≡ first (part_rules config.now place update.now) }
+    ensures { result ≡ unless (first (part_rules config.now place update.now)) tt }
 {
     if !config.is_listed(update.object) {
-        return Some(place);
+        return Err(Fault::Record(place));
     }
     if config.is_regular(update.object) && update.element != 0 {
-        return Some(place + 2);
+        return Err(Fault::Record(place + 2));
     }
-    None
+    Ok(())
 }
 
-/// The place of the first part of an update that is not one of the group.
-fn updates_offence(config: &Config, row: &Row) -> Option<u32>
-    ensures { result ≡ first (update_rules config.now 28 (updates_of row.now)) }
+#[tactic(auto, using(record::proofs::Offences::check_append))]
+fn check_updates(config: &Config, row: &Row) -> Result<(), Fault>
+    ensures { result ≡ unless (first (update_rules config.now 28 (updates_of row.now))) tt }
 {
-    let mut place = 28;
-    for update in row.updates() {
-        if let Some(found) = update_offence(config, place, update) {
-            return Some(found);
-        }
-        place += 8;
+    for (i, update) in row.updates().iter().enumerate() {
+        check_update(config, 28 + 8 * i as u32, update)?;
     }
-    None
+    Ok(())
 }
 
 /// The same of a record, which carries updates only as PREPARE or PROPAGATE.
-fn carried_offence(config: &Config, record: &Record) -> Option<u32>
-    ensures { result ≡ first (update_rules config.now 28 (carried_updates «record».now)) }
+fn check_carried(config: &Config, record: &Record) -> Result<(), Fault>
+    ensures { result ≡ unless (first (update_rules config.now 28 (carried_updates «record».now))) tt }
 {
     match record.kind {
-        RecordKind::Prepare => updates_offence(config, &record.to_row()),
-        RecordKind::Propagate => updates_offence(config, &record.to_row()),
-        RecordKind::Vote => None,
-        RecordKind::Abort => None,
-        RecordKind::Ack => None,
-        RecordKind::Durable => None,
-        RecordKind::Row => None,
+        RecordKind::Prepare | RecordKind::Propagate => check_updates(config, &Row::from(*record)),
+        _ => Ok(()),
     }
 }
 
-/// The place of the first clock entry or part of an update that is not one of the group.
-fn body_offence(config: &Config, record: &Record) -> Option<u32>
-    ensures { result ≡ first (body_rules config.now «record».now) }
+/// Denies a record that is not one of the group, with the place of the first field that is not.
+#[tactic(auto, using(record::proofs::Offences::check_append))]
+fn check_group(config: &Config, record: &Record) -> Result<(), Fault>
+    ensures { result ≡ unless (first (group_rules config.now «record».now)) tt }
 {
-    match clock_offence(config, &record.start) {
-        Some(place) => Some(place),
-        None => carried_offence(config, record),
-    }
-}
-
-/// Whether the record is for a log, and never for the bus.
-fn is_row(kind: RecordKind) -> bool
-    ensures { result ≡ (code_of kind == 8) }
-{
-    match kind {
-        RecordKind::Row => true,
-        RecordKind::Prepare => false,
-        RecordKind::Propagate => false,
-        RecordKind::Vote => false,
-        RecordKind::Abort => false,
-        RecordKind::Ack => false,
-        RecordKind::Durable => false,
-    }
-}
-
-/// The place of the first field that is not one of the group.
-fn group_offence(config: &Config, record: &Record) -> Option<u32>
-    ensures { result ≡ first (group_rules config.now «record».now) }
-{
-    if is_row(record.kind) {
-        return Some(0);
+    // A ROW is for a log, and never for the bus.
+    if record.kind == RecordKind::Row {
+        return Err(Fault::Record(0));
     }
     if record.sender >= config.boards {
-        return Some(1);
+        return Err(Fault::Record(1));
     }
     if record.receiver >= config.boards {
-        return Some(2);
+        return Err(Fault::Record(2));
     }
-    body_offence(config, record)
+    check_clock(config, &record.start)?;
+    check_carried(config, record)
 }
 
 /// The record, if it is for this board.
@@ -126,17 +81,16 @@ fn addressed(config: &Config, record: Record) -> Result<Record, Fault>
     if record.receiver == config.own {
         Ok(record)
     } else {
-        Err(Fault::board(Denial::NotHere))
+        Err(Fault::Board(Denial::NotHere))
     }
 }
 
 /// The record in some bytes, if it is one of the group, and for this board.
+#[tactic(auto, using(record::proofs::Offences::check_then))]
 pub fn receive(config: &Config, bytes: &[u8]) -> Result<Record, Fault>
     ensures { result ≡ received config.now bytes.now }
 {
     let record = Record::decode(bytes)?;
-    match group_offence(config, &record) {
-        Some(place) => Err(Fault::in_record(place)),
-        None => addressed(config, record),
-    }
+    check_group(config, &record)?;
+    addressed(config, record)
 }

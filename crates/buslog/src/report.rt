@@ -45,23 +45,22 @@ impl Report {
         ensures counted { OnOk result (self.new ≡ counted self.old (of_line line.now)) }
         ensures told { IfOk result (λ text. is_some text ≡ is_some (of_line line.now)) }
     {
-        match Verdict::of_line(heap, line)? {
-            Some(held) => {
-                self.note(&held);
-                let number = self.lines;
-                Ok(Some(format!(in heap; "{number} {held}")?))
-            }
-            None => Ok(None),
-        }
+        let Some(held) = Verdict::of_line(heap, line)? else {
+            return Ok(None);
+        };
+        self.note(&held);
+        Ok(Some(format!(in heap; "{} {held}", self.lines)?))
     }
 }
 
 impl fmt::Display for Report {
     fn fmt<W: fmt::Write>(&self, f: &mut fmt::Formatter<W>) -> fmt::Result {
-        let lines = self.lines;
-        let records = self.records;
-        let denied = self.denied;
-        let others = self.others;
+        let Report {
+            lines,
+            records,
+            denied,
+            others,
+        } = self;
         write!(
             f,
             "{lines} lines: {records} records, {denied} denied, {others} not record lines"

@@ -1,11 +1,12 @@
 //! What a line of a captured bus log holds.
-ghost use Rattle.std.specs.Prelude.{◌≡◌, IfOk};
+ghost use Rattle.std.specs.Prelude.{◌≡◌, ◌/◌, length, IfOk};
 ghost use Rattle.record.specs.Codec.{decoded};
 ghost use Rattle.buslog.specs.Verdicts.{of_decoded, of_digits, of_line};
 
-use crate::{hex, line};
+use crate::line;
 use record::{Fault, Record};
 use std::alloc::{AllocError, Global};
+use std::fmt;
 
 #[derive(Clone, Copy)]
 pub enum Verdict {
@@ -27,14 +28,22 @@ impl Verdict {
         }
     }
 
+    /// What digits hold, decoded into room for half as many bytes.
+    fn of_hex(digits: &[u8], room: &mut [u8]) -> Verdict
+        requires { length room.old ≡ length digits.now / 2 }
+        ensures { result ≡ of_digits digits.now }
+    {
+        match hex::decode_to_slice(digits, room) {
+            Ok(()) => Verdict::of_bytes(room),
+            Err(_) => Verdict::Other,
+        }
+    }
+
     fn of_digits(heap: Global, digits: &[u8]) -> Result<Verdict, AllocError>
         ensures { IfOk result (λ v. v ≡ of_digits digits.now) }
     {
-        if !hex::is_hex(digits) {
-            return Ok(Verdict::Other);
-        }
-        let bytes = hex::bytes_in(heap, digits)?;
-        Ok(Verdict::of_bytes(bytes.as_slice()))
+        let mut room = vec![in heap; 0; digits.len() / 2]?;
+        Ok(Verdict::of_hex(digits, room.as_mut_slice()))
     }
 
     /// What the line holds; nothing is said of blank lines and comments.
@@ -48,6 +57,16 @@ impl Verdict {
         match line::payload(line) {
             Some(digits) => Ok(Some(Verdict::of_digits(heap, digits)?)),
             None => Ok(Some(Verdict::Other)),
+        }
+    }
+}
+
+impl fmt::Display for Verdict {
+    fn fmt<W: fmt::Write>(&self, f: &mut fmt::Formatter<W>) -> fmt::Result {
+        match self {
+            Verdict::Record(found) => write!(f, "{found}"),
+            Verdict::Denied(fault) => write!(f, "denied {fault}"),
+            Verdict::Other => f.write_str("not a record line"),
         }
     }
 }

@@ -1,4 +1,1 @@
-pub mod Counts
-mod Holders
 mod OurSteps
-pub mod Passed

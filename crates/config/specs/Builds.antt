@@ -1,6 +1,6 @@
 -- What a board may be built with.
-use Rattle.std.specs.Prelude.{ℕ, Bool, not, ◌&&◌, ltb, List, take, Result, ◌==◌, nat_le, nat_lt}
-use Rattle.record.specs.Every.{every}
+use Rattle.std.specs.Prelude.{ℕ, Bool, not, ◌&&◌, List, take, Result, ◌==◌, nat_le, nat_lt}
+use Rattle.std.specs.List.{list_all}
 use Rattle.record.specs.Verdicts.{need}
 use Rattle.record.specs.declared.fault.Denial.TheVariants.{Build}
 use Rattle.record.specs.declared.fault.Fault.{Fault}
@@ -14,7 +14,7 @@ is_group c =
 
 -- the preferred board of each container is one of the group
 abbrev pub are_in_group : ℕ → List Container → Bool
-are_in_group boards containers = every (λ container. ltb container.preferred boards) containers
+are_in_group boards containers = list_all (λ container. nat_lt container.preferred boards) containers
 
 -- it lists 1 to 64 containers, each with a preferred board of the group
 abbrev pub is_listing : Config → Bool

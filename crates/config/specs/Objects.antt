@@ -1,6 +1,6 @@
 -- Objects, their containers, and what the updates of a transaction touch.
 use Rattle.std.specs.Prelude.{ℕ, ◌+◌, ◌/◌, Bool, cond, not, ◌&&◌, ◌||◌, List, [], ◌∷◌, fold, ◌==◌, nat_lt, slice_index_or}
-use Rattle.record.specs.Every.{every}
+use Rattle.std.specs.List.{list_all, list_any}
 use Rattle.record.specs.Clocks.{covered}
 use Rattle.record.specs.Rows.{updates_of}
 use Rattle.record.specs.declared.row.Row.{Row}
@@ -16,7 +16,7 @@ container_of object = object / 256
 abbrev pub is_listed : Config → ℕ → Bool
 is_listed c object = nat_lt (container_of object) c.listed
 
-abbrev no_container : Container
+abbrev pub no_container : Container
 no_container = record { preferred = 0; kind = 0 }
 
 abbrev pub kind_of : Config → ℕ → ℕ
@@ -34,14 +34,14 @@ is_ours c object = is_regular c object && preferred_of c object == c.own
 
 -- some update is of the object
 abbrev pub writes : List Update → ℕ → Bool
-writes us object = not (every (λ u. not (u.object == object)) us)
+writes us object = list_any (λ u. u.object == object) us
 
 abbrev pub writes_regular : Config → List Update → Bool
-writes_regular c us = not (every (λ u. not (is_regular c u.object)) us)
+writes_regular c us = list_any (λ u. is_regular c u.object) us
 
 -- each of our objects among those written passes a test
 abbrev pub every_ours : Config → (ℕ → Bool) → List Update → Bool
-every_ours c p us = every (λ u. not (is_ours c u.object) || p u.object) us
+every_ours c p us = list_all (λ u. not (is_ours c u.object) || p u.object) us
 
 -- how many of our objects are written, each counted once
 abbrev pub count_ours : Config → List Update → ℕ
@@ -55,8 +55,7 @@ polled_with c set object =
 
 -- the other boards that are preferred for a written regular object
 abbrev pub polled_for : Config → List Update → ℕ
-polled_for c us =
-    fold (λ set u. cond (is_regular c u.object && not (preferred_of c u.object == c.own)) (with_board set (preferred_of c u.object)) set) 0 us
+polled_for c us = fold (λ set u. polled_with c set u.object) 0 us
 
 -- a row of the log that the start clock does not cover writes one of them
 abbrev pub clashes : Config → Row → Row → Bool

@@ -9,10 +9,7 @@ const SITE_MARKS: [u8; 8] = [1, 2, 4, 8, 16, 32, 64, 128];
 fn mark(board: u8) -> u8
     ensures { result ≡ mark_of board }
 {
-    match SITE_MARKS.get(board as usize) {
-        Some(mark) => *mark,
-        None => 0,
-    }
+    SITE_MARKS.get(board as usize).copied().unwrap_or(0)
 }
 
 /// Whether the board is in the set.

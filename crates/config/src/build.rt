@@ -9,12 +9,9 @@ use record::{Denial, Fault};
 fn are_in_group(boards: u8, containers: &[Container]) -> bool
     ensures { result ≡ are_in_group boards containers.now }
 {
-    for container in containers {
-        if container.preferred >= boards {
-            return false;
-        }
-    }
-    true
+    containers
+        .iter()
+        .all(|container| container.preferred < boards)
 }
 
 impl Config {
@@ -22,8 +19,7 @@ impl Config {
     fn is_group(&self) -> bool
         ensures { result ≡ is_group self.now }
     {
-        2 <= self.boards
-            && self.boards <= 8
+        (2..=8).contains(&self.boards)
             && 1 <= self.losses
             && self.losses < self.boards
             && self.own < self.boards
@@ -34,7 +30,7 @@ impl Config {
         ensures { result ≡ is_listing self.now }
     {
         let listed = self.listed as usize;
-        1 <= listed && listed <= 64 && are_in_group(self.boards, &self.containers[0..listed])
+        (1..=64).contains(&listed) && are_in_group(self.boards, &self.containers[..listed])
     }
 
     /// Whether a board can be built from this, with this serial for its first transaction.
@@ -44,7 +40,7 @@ impl Config {
         if self.is_group() && self.is_listing() && first_serial != 0 {
             Ok(())
         } else {
-            Err(Fault::board(Denial::Build))
+            Err(Fault::Board(Denial::Build))
         }
     }
 }

@@ -1,9 +1,9 @@
 //! Objects, their containers, and what the updates of a transaction touch.
-ghost use Rattle.std.specs.Prelude.{◌≡◌, not, ◌&&◌, ◌||◌, ◌==◌};
-ghost use Rattle.config.specs.Objects.{container_of, is_listed, kind_of, preferred_of, is_regular, is_ours, writes, writes_regular, every_ours, count_ours, polled_for, polled_with, clashes};
+ghost use Rattle.std.specs.Prelude.{◌≡◌, not, ◌&&◌, ◌||◌, ◌==◌, slice_index_or};
+ghost use Rattle.config.specs.Objects.{container_of, no_container, is_listed, kind_of, preferred_of, is_regular, is_ours, writes, writes_regular, every_ours, count_ours, polled_for, polled_with, clashes};
 
 use crate::board_set;
-use crate::config::Config;
+use crate::config::{Config, Container};
 use record::{Row, Update};
 
 /// The container of an object is its number's high byte.
@@ -17,12 +17,7 @@ fn container(object: u16) -> usize
 fn writes(updates: &[Update], object: u16) -> bool
     ensures { result ≡ writes updates.now object }
 {
-    for update in updates {
-        if update.object == object {
-            return true;
-        }
-    }
-    false
+    updates.iter().any(|update| update.object == object)
 }
 
 impl Config {
@@ -33,14 +28,21 @@ impl Config {
         container(object) < self.listed as usize
     }
 
+    /// The container of an object; one of board 0 and of kind 0 past the 64.
+    fn container_of(&self, object: u16) -> Container
+        ensures { result ≡ slice_index_or self.now.containers (container_of object) no_container }
+    {
+        self.containers
+            .get(container(object))
+            .copied()
+            .unwrap_or(Container::NONE)
+    }
+
     /// The kind of an object, as its container has it.
     fn kind_of(&self, object: u16) -> u8
         ensures { result ≡ kind_of self.now object }
     {
-        match self.containers.get(container(object)) {
-            Some(container) => container.kind,
-            None => 0,
-        }
+        self.container_of(object).kind
     }
 
     /// Whether the object is of this kind.
@@ -54,10 +56,7 @@ impl Config {
     pub(crate) fn preferred_of(&self, object: u16) -> u8
         ensures { result ≡ preferred_of self.now object }
     {
-        match self.containers.get(container(object)) {
-            Some(container) => container.preferred,
-            None => 0,
-        }
+        self.container_of(object).preferred
     }
 
     /// Whether the object is regular: its kind is 0.
@@ -78,31 +77,15 @@ impl Config {
     pub(crate) fn writes_regular(&self, updates: &[Update]) -> bool
         ensures { result ≡ writes_regular self.now updates.now }
     {
-        for update in updates {
-            if self.is_regular(update.object) {
-                return true;
-            }
-        }
-        false
+        updates.iter().any(|update| self.is_regular(update.object))
     }
 
-    /// Whether the object is not ours, or not among those that the others write.
-    fn is_apart(&self, others: &[Update], object: u16) -> bool
-        ensures { result ≡ (not (is_ours self.now object) || not (writes others.now object)) }
-    {
-        !self.is_ours(object) || !writes(others, object)
-    }
-
+    // A chain of its own, as the tests of locks are: over a closure the contract of a shared one is longer than each of them.
     /// Whether none of our objects among those written is among those that the others write.
     pub fn all_apart(&self, others: &[Update], updates: &[Update]) -> bool
         ensures { result ≡ every_ours self.now (λ object. not (writes others.now object)) updates.now }
     {
-        for update in updates {
-            if !self.is_apart(others, update.object) {
-                return false;
-            }
-        }
-        true
+        updates.iter().all(|update| !self.is_ours(update.object) || !writes(others, update.object))
     }
 
     /// Whether the object is ours, and not written later.
@@ -112,17 +95,15 @@ impl Config {
         self.is_ours(object) && !writes(later, object)
     }
 
-    /// How many of our objects are written, each counted once.
+    /// How many of our objects are written, each counted once: where it is written last.
     pub fn count_ours(&self, updates: &[Update]) -> usize
         ensures { result ≡ count_ours self.now updates.now }
     {
-        let mut count = 0;
-        for (i, update) in updates.iter().enumerate() {
-            if self.counts(update.object, &updates[i + 1..]) {
-                count += 1;
-            }
-        }
-        count
+        updates
+            .iter()
+            .enumerate()
+            .filter(|(i, update)| self.counts(update.object, &updates[i + 1..]))
+            .count()
     }
 
     /// The set, with the board that is preferred for the object, if it is a regular one of another board.
@@ -141,18 +122,15 @@ impl Config {
     pub fn polled_for(&self, updates: &[Update]) -> u8
         ensures { result ≡ polled_for self.now updates.now }
     {
-        let mut set = 0;
-        for update in updates {
-            set = self.polling(set, update.object);
-        }
-        set
+        updates
+            .iter()
+            .fold(0, |set, update| self.polling(set, update.object))
     }
 
     /// Whether the other row is not covered by this one's start clock, and writes one of our objects that this one writes.
     pub fn clashes(&self, row: &Row, other: &Row) -> bool
         ensures { result ≡ clashes self.now row.now other.now }
     {
-        !row.start.covers(other.home, other.number)
-            && !self.all_apart(other.updates(), row.updates())
+        !row.start.covers_row(other) && !self.all_apart(other.updates(), row.updates())
     }
 }

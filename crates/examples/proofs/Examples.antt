@@ -1,6 +1,7 @@
 -- The examples, by computation.
 use Rattle.std.proofs.Common.{◌≡◌, true, List, refl}
 use Rattle.std.specs.Int.{int_wrap}
+use Rattle.config.specs.Durable.{holders}
 use Rattle.isolation.specs.Groups.{Group, Built}
 use Rattle.examples.specs.Scripts.{Line, opening, given, told, Plays}
 use Rattle.examples.specs.Examples.{Examples}
@@ -11,7 +12,7 @@ plays : {g : Group} {script : List Line} → Built g → fits g (opening g) scri
 plays {g} {script} built h same = record { built = built; run = runs g script h; answered = same }
 
 pub hold : Examples
-unfolding int_wrap
+unfolding int_wrap holders
 hold =
     record {
       one_of_two_writers = plays pair_built refl refl;
@@ -19,6 +20,7 @@ hold =
       count_down_and_up = (plays pair_built refl refl, refl, refl);
       marks_in_either_order = (plays pair_built refl refl, plays pair_built refl refl, refl, refl);
       four_updates = plays pair_built refl refl;
+      refusals_in_numbers = ((refl, refl, refl), (refl, refl, refl));
       rows_in_order = (plays pair_built refl refl, refl, refl, refl, refl, refl, refl, refl);
       preferred_board_counts = (plays trio_built refl refl, refl, refl, refl, plays trio_built refl refl, refl);
       ack_in_bytes = refl;

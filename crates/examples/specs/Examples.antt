@@ -7,13 +7,15 @@
 use Rattle.std.specs.Prelude.{◌≡◌, ℕ, Bool, true, false, List, [], ◌∷◌, ◌++◌, map, length, take, replicate, ℤ, pos, neg_ℤ, Some, None, Ok, Option, Result}
 use Rattle.record.specs.Clocks.{entry_of}
 use Rattle.record.specs.Codec.{encoded}
+use Rattle.record.specs.Faults.{board_fault, layer_of, number_in, place_in}
+use Rattle.record.specs.declared.fault.Denial.TheVariants.{FourUpdates as NoFifth, Early}
 use Rattle.record.specs.declared.fault.Fault.{Fault}
 use Rattle.record.specs.declared.kind.RecordKind.TheVariants.{Prepare, Vote, Propagate, Ack, Durable}
 use Rattle.merging.specs.Counts.{by_one, added}
 use Rattle.merging.specs.Marks.{higher}
 use Rattle.config.specs.Durable.{is_durable}
 use Rattle.config.specs.declared.config.Container.{Container}
-use Rattle.protocol.specs.Effects.{State}
+use Rattle.board.specs.Effects.{State}
 use Rattle.bus.specs.Records.{ack}
 use Rattle.board.specs.Transactions.{look}
 use Rattle.isolation.specs.Calls.{start, put, merge, read, commit, settle, denied, done, serial, word, outcome, settled, count}
@@ -158,8 +160,20 @@ MarksInEitherOrder =
 
 -- ## Refusals
 
-abbrev refusal : ℕ → ℕ → ℕ → Fault
-refusal layer number place = record { layer = layer; number = number; place = place }
+-- no fifth update is taken
+abbrev full : Fault
+full = board_fault NoFifth
+
+-- a record comes before one that it follows
+abbrev too_early : Fault
+too_early = board_fault Early
+
+abbrev Shows : Fault → ℕ → ℕ → ℕ → Type 0
+Shows fault layer number place = (layer_of fault ≡ layer) × (number_in fault ≡ number) × (place_in fault ≡ place)
+
+-- in numbers: layer, number and place
+abbrev pub RefusalsInNumbers : Type 0
+RefusalsInNumbers = Shows full 2 8 0 × Shows too_early 2 13 0
 
 abbrev pub FourUpdates : Type 0
 FourUpdates =
@@ -169,7 +183,7 @@ FourUpdates =
     ∷ on 0 (put 0 1 1 1) ⇒ done
     ∷ on 0 (put 0 1 2 1) ⇒ done
     ∷ on 0 (put 0 1 3 1) ⇒ done
-    ∷ on 0 (put 0 1 4 1) ⇒ denied (refusal 2 8 0)
+    ∷ on 0 (put 0 1 4 1) ⇒ denied full
     ∷ []))
 
 -- ## Rows are taken in order
@@ -183,7 +197,7 @@ early =
     ∷ on 0 start ⇒ serial 2
     ∷ on 0 (put 0 2 0 8) ⇒ done
     ∷ on 0 (commit 0 2 448) ⇒ outcome (1, 2, 1)
-    ∷ bring 1 1 ⇒ denied (refusal 2 13 0)
+    ∷ bring 1 1 ⇒ denied too_early
     ∷ []
 
 -- then that of row 1
@@ -300,7 +314,7 @@ TakenAfterItsPast =
     ∷ on 0 (commit 0 1 448) ⇒ outcome (2, 0, 1)
     ∷ bring 5 1 ⇒ count 1
     ∷ bring 6 0 ⇒ count 2
-    ∷ bring 8 2 ⇒ denied (refusal 2 13 0)
+    ∷ bring 8 2 ⇒ denied too_early
     ∷ bring 1 2 ⇒ count 1
     ∷ bring 8 2 ⇒ count 1
     ∷ bring 4 2 ⇒ count 0
@@ -325,6 +339,8 @@ pub record Examples : Type 0 where
   pub marks_in_either_order : MarksInEitherOrder
   -- the fourth update of a transaction is accepted, and the fifth denied with 8
   pub four_updates : FourUpdates
+  -- the refusals of these examples are the board's, 8 and 13, at no place
+  pub refusals_in_numbers : RefusalsInNumbers
   -- row 2 is denied with 13 before row 1 is there; row 1 is taken once and acknowledged each time
   pub rows_in_order : RowsInOrder
   -- a row that writes an object of board 2 is not durable by the ACK of board 1, and is by that of board 2

@@ -4,7 +4,7 @@ use Rattle.std.specs.List.{flat_map}
 use Rattle.record.specs.Layout.{bytes_of}
 use Rattle.record.specs.declared.kind.RecordKind.{RecordKind}
 use Rattle.record.specs.declared.message.Record.{Record}
-use Rattle.protocol.specs.Effects.{State}
+use Rattle.board.specs.Effects.{State}
 use Rattle.isolation.specs.Calls.{Call, deliver, Answer, Returned, does}
 use Rattle.isolation.specs.Events.{Event}
 use Rattle.isolation.specs.Groups.{Group, Built, Run, fresh_board, with_board}

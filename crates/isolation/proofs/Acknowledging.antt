@@ -7,9 +7,9 @@ use Rattle.record.specs.declared.row.Row.{Row}
 use Rattle.record.specs.Clocks.{covered}
 use Rattle.record.specs.Rows.{row_of, zero_clock}
 use Rattle.record.specs.Verdicts.{and_then}
-use Rattle.protocol.specs.Commits.{buffer_fits}
+use Rattle.board.specs.Commits.{buffer_fits}
 use Rattle.bus.specs.Received.{received}
-use Rattle.protocol.specs.Effects.{State as Board}
+use Rattle.board.specs.Effects.{State as Board}
 use Rattle.isolation.specs.Books.{nothing}
 use Rattle.isolation.specs.Calls.{does, deliver}
 use Rattle.isolation.specs.Events.{Event, seen_all, written_by, first_propagate}

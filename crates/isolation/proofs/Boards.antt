@@ -17,7 +17,7 @@ use Rattle.tables.specs.declared.place.Place.TheVariants.{Free, Open}
 use Rattle.tables.specs.declared.tables.Tables.{Tables}
 use Rattle.tables.proofs.Owners.{lock_of, locks_taken, locks_single, without, owner_gone, owner_gone_single}
 use Rattle.tables.proofs.Serials.{one_serial, put_distinct}
-use Rattle.protocol.specs.Effects.{State as Board}
+use Rattle.board.specs.Effects.{State as Board}
 use Rattle.isolation.specs.Groups.{Group}
 use Rattle.isolation.specs.Machine as machine
 use Rattle.isolation.specs.Machine.{Phase, unknown, opened, held, State, put, appends, locks, frees, with_phase, takes}

@@ -12,7 +12,7 @@ use Rattle.tables.specs.Places.{place_of}
 use Rattle.record.specs.Verdicts.{and_then, need}
 use Rattle.tables.specs.Transactions.{open_row, kind_fits, readable}
 use Rattle.tables.specs.declared.place.Place.TheVariants.{Open}
-use Rattle.protocol.specs.Effects.{State as Board}
+use Rattle.board.specs.Effects.{State as Board}
 use Rattle.board.specs.Transactions.{read, look}
 use Rattle.queries.specs.Walks.{word_of}
 use Rattle.isolation.specs.Books.{transaction}

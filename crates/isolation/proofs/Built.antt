@@ -2,7 +2,7 @@
 use Rattle.std.proofs.Common.{◌≡◌, ℕ, zero, suc, ◌<◌, ◌≤◌, Bool, true, false, not, ◌&&◌, eqb, ltb, leb, List, [], ◌∷◌, length, get_or, take, Ok, refl, arith}
 use Rattle.std.proofs.lemmas.Bool.{and_parts, ltb-true, leb-true}
 use Rattle.std.proofs.lemmas.List.{get_or-take, length-take-le}
-use Rattle.record.specs.Every.{every}
+use Rattle.std.specs.List.{list_all}
 use Rattle.record.specs.declared.fault.Denial.{Denial}
 use Rattle.record.specs.declared.fault.Denial.TheVariants.{Build}
 use Rattle.config.specs.Builds.{is_group, is_listing, are_in_group}
@@ -16,10 +16,10 @@ pub needed : (v : Bool) (why : Denial) (w : Unit {0}) → need v why ≡ Ok w �
 needed true why w e = refl
 needed false why w e = cc
 
-pub every_at : {X : Type 0} (p : X → Bool) (xs : List X) (i : ℕ) (d : X) → every p xs ≡ true → i < length xs → p (get_or xs i d) ≡ true
+pub every_at : {X : Type 0} (p : X → Bool) (xs : List X) (i : ℕ) (d : X) → list_all p xs ≡ true → i < length xs → p (get_or xs i d) ≡ true
 every_at p [] i d e h = absurd (omega arith)
-every_at p (x ∷ xs) zero d e h = (and_parts (p x) (every p xs) e).0
-every_at p (x ∷ xs) (suc i) d e h = every_at p xs i d (and_parts (p x) (every p xs) e).1 (omega arith)
+every_at p (x ∷ xs) zero d e h = (and_parts (p x) (list_all p xs) e).0
+every_at p (x ∷ xs) (suc i) d e h = every_at p xs i d (and_parts (p x) (list_all p xs) e).1 (omega arith)
 
 module _ (g : Group) (built : Built g) (b : ℕ) (inside : b < g.boards) where
   checks : (is_group (config_of g b) ≡ true) × (is_listing (config_of g b) ≡ true)

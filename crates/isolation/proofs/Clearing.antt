@@ -6,7 +6,7 @@ use Rattle.std.proofs.lemmas.Bool.{cases_eq, cases_Bool, eq-eqb, and_parts, and_
 use Rattle.std.proofs.lemmas.Bool.Decides.{nat_tests}
 use Rattle.record.specs.declared.row.Row.{Row}
 use Rattle.record.specs.declared.row.Update.{Update}
-use Rattle.record.specs.Every.{every}
+use Rattle.std.specs.List.{list_all}
 use Rattle.record.specs.Rows.{updates_of}
 use Rattle.record.specs.Updates.{is_covered}
 use Rattle.tables.specs.Changes.{all_locked}
@@ -14,8 +14,8 @@ use Rattle.tables.specs.Locks.{is_unlocked, is_locked_by}
 use Rattle.config.specs.Objects.{is_ours, writes, every_ours}
 use Rattle.config.specs.declared.config.Config.{Config}
 use Rattle.tables.proofs.Owners.{unlocked_none, locked_by}
-use Rattle.protocol.specs.Commits.{is_clear, all_clear}
-use Rattle.protocol.specs.Effects.{State as Board}
+use Rattle.board.specs.Commits.{is_clear, all_clear}
+use Rattle.board.specs.Effects.{State as Board}
 use Rattle.queries.specs.Logs.{is_unchanged}
 use Rattle.isolation.specs.Events.{Event, seen_all}
 use Rattle.isolation.specs.Groups.{Group}
@@ -29,10 +29,10 @@ use Rattle.isolation.proofs.Simulation.{holder_of, preferred_in, said, At}
 use Rattle.isolation.proofs.Writers.{touches, writes_touches}
 
 -- a test that all pass, each passes
-pub every_member : {X : Type 0} (p : X → Bool) (xs : List X) (x : X) → every p xs ≡ true → Memᴰ x xs → p x ≡ true
+pub every_member : {X : Type 0} (p : X → Bool) (xs : List X) (x : X) → list_all p xs ≡ true → Memᴰ x xs → p x ≡ true
 every_member p [] x e m = absurd (Memᴰ.not-nil m)
 every_member p (y ∷ xs) x e m =
-    let both = and_parts (p y) (every p xs) e in
+    let both = and_parts (p y) (list_all p xs) e in
     ⊎_elim (λ (q : x ≡ y). rw q both.0) (λ (k : Memᴰ x xs). every_member p xs x both.1 k) (Memᴰ.cases_cons m)
 
 pub writes_is : (us : List Update) (o : ℕ) → writes us o ≡ touches us o

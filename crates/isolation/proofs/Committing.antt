@@ -16,8 +16,8 @@ use Rattle.tables.specs.Places.{has_serial, place_of}
 use Rattle.record.specs.Verdicts.{and_then}
 use Rattle.tables.specs.Transactions.{open_row}
 use Rattle.tables.specs.declared.place.Place.TheVariants.{Free, Open, Waiting}
-use Rattle.protocol.specs.Commits.{all_clear, may_append, propagates, prepares, buffer_fits}
-use Rattle.protocol.specs.Effects.{State as Board}
+use Rattle.board.specs.Commits.{all_clear, may_append, propagates, prepares, buffer_fits}
+use Rattle.board.specs.Effects.{State as Board}
 use Rattle.bus.specs.Records.{others}
 use Rattle.isolation.specs.Books.{nothing}
 use Rattle.isolation.specs.Calls.{commit}

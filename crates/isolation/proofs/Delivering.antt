@@ -7,9 +7,9 @@ use Rattle.record.specs.declared.kind.RecordKind.TheVariants.{Prepare, Vote, Abo
 use Rattle.record.specs.declared.message.Record.{Record}
 use Rattle.record.specs.Rows.{row_of}
 use Rattle.record.specs.Verdicts.{and_then}
-use Rattle.protocol.specs.Commits.{buffer_fits}
+use Rattle.board.specs.Commits.{buffer_fits}
 use Rattle.bus.specs.Received.{received}
-use Rattle.protocol.specs.Effects.{State as Board}
+use Rattle.board.specs.Effects.{State as Board}
 use Rattle.isolation.specs.Calls.{does, deliver}
 use Rattle.isolation.specs.Events.{Event, seen_all, written_by}
 use Rattle.isolation.specs.Groups.{Group, Built, Brought}

@@ -20,7 +20,7 @@ use Rattle.tables.specs.Transactions.{open_row, kind_fits, with_update, with_pla
 use Rattle.tables.specs.declared.place.Place.{Place}
 use Rattle.tables.specs.declared.place.Place.TheVariants.{Free, Open, Waiting, Committed, Aborted}
 use Rattle.tables.specs.declared.tables.Tables.{Tables}
-use Rattle.protocol.specs.Effects.{State as Board}
+use Rattle.board.specs.Effects.{State as Board}
 use Rattle.isolation.specs.Books.{changed, nothing}
 use Rattle.isolation.specs.Calls.{start, put, merge, read, look, abandon, settle, Typed}
 use Rattle.isolation.specs.Events.{Event, seen_all}

@@ -7,9 +7,9 @@ use Rattle.record.specs.declared.message.Record.{Record}
 use Rattle.record.specs.declared.row.Row.{Row}
 use Rattle.record.specs.Rows.{updates_of, row_of, zero_clock}
 use Rattle.record.specs.Verdicts.{and_then}
-use Rattle.protocol.specs.Commits.{buffer_fits}
+use Rattle.board.specs.Commits.{buffer_fits}
 use Rattle.bus.specs.Received.{received}
-use Rattle.protocol.specs.Effects.{State as Board}
+use Rattle.board.specs.Effects.{State as Board}
 use Rattle.isolation.specs.Books.{nothing}
 use Rattle.isolation.specs.Calls.{does, deliver}
 use Rattle.isolation.specs.Events.{Event, seen_all, written_by}
@@ -30,7 +30,7 @@ use Rattle.record.specs.declared.kind.RecordKind.TheVariants.{Prepare}
 use Rattle.tables.specs.Changes.{all_locked, lockable, locked}
 use Rattle.tables.specs.Locks.{free_locks}
 use Rattle.config.specs.Objects.{count_ours}
-use Rattle.protocol.specs.Commits.{all_clear}
+use Rattle.board.specs.Commits.{all_clear}
 use Rattle.bus.specs.Records.{vote}
 use Rattle.isolation.specs.Machine.{vote_yes, locks}
 use Rattle.isolation.proofs.Boards.{with_tables, wants, at_locked}

@@ -14,11 +14,11 @@ use Rattle.config.specs.Durable.{is_durable}
 use Rattle.tables.specs.Places.{place_of}
 use Rattle.tables.specs.declared.place.Place.{Place}
 use Rattle.tables.specs.declared.place.Place.TheVariants.{Free, Open, Waiting, Committed, Aborted}
-use Rattle.protocol.specs.Commits.{prepares, buffer_fits}
-use Rattle.protocol.specs.Effects.{State as Board}
+use Rattle.board.specs.Commits.{prepares, buffer_fits}
+use Rattle.board.specs.Effects.{State as Board}
 use Rattle.queries.specs.Logs.{find_row}
 use Rattle.bus.specs.Records.{others}
-use Rattle.protocol.specs.Resends.{reminder, reminders}
+use Rattle.board.specs.Resends.{reminder, reminders}
 use Rattle.isolation.specs.Books.{nothing, propagated}
 use Rattle.isolation.specs.Calls.{resend}
 use Rattle.isolation.specs.Events.{Event, seen_all, first_propagate}

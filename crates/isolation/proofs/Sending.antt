@@ -12,8 +12,8 @@ use Rattle.record.specs.Clocks.{covered}
 use Rattle.record.specs.Rows.{record_of, row_of}
 use Rattle.config.specs.declared.config.Config.{Config}
 use Rattle.tables.specs.declared.tables.Tables.{Tables}
-use Rattle.protocol.specs.Commits.{propagates}
-use Rattle.protocol.specs.Resends.{reminder}
+use Rattle.board.specs.Commits.{propagates}
+use Rattle.board.specs.Resends.{reminder}
 use Rattle.isolation.specs.Books.{Told, propagated, nothing}
 use Rattle.isolation.specs.Events.{first_propagate}
 use Rattle.isolation.specs.Machine.{Message, State, MayWrite, Among}

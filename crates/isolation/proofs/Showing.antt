@@ -8,9 +8,9 @@ use Rattle.record.specs.declared.row.Row.{Row}
 use Rattle.record.specs.Clocks.{entry_of, covered, reached}
 use Rattle.record.specs.Rows.{row_of}
 use Rattle.record.specs.Verdicts.{and_then}
-use Rattle.protocol.specs.Commits.{buffer_fits}
+use Rattle.board.specs.Commits.{buffer_fits}
 use Rattle.bus.specs.Received.{received}
-use Rattle.protocol.specs.Effects.{State as Board}
+use Rattle.board.specs.Effects.{State as Board}
 use Rattle.isolation.specs.Books.{heard}
 use Rattle.isolation.specs.Calls.{does, deliver}
 use Rattle.isolation.specs.Events.{Event, seen_all, written_by}
@@ -26,7 +26,7 @@ use Rattle.isolation.proofs.Runs.{Kept}
 use Rattle.isolation.proofs.Simulation.{preferred_in, said, At, Step, Steps}
 use Rattle.record.specs.declared.kind.RecordKind.TheVariants.{Durable}
 use Rattle.tables.specs.Changes.{released, with_shown}
-use Rattle.protocol.specs.Delivers.{is_next}
+use Rattle.board.specs.Delivers.{is_next}
 use Rattle.queries.specs.Logs.{find_row}
 use Rattle.isolation.proofs.Boards.{with_tables, at_released, at_shown}
 use Rattle.isolation.proofs.Reaching.{reaches}

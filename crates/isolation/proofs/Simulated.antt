@@ -6,7 +6,7 @@ use Rattle.record.specs.declared.message.Record.{Record}
 use Rattle.record.specs.Rows.{row_of}
 use Rattle.tables.specs.declared.place.Place.TheVariants.{Free}
 use Rattle.tables.proofs.Serials.{lacks, Distinct}
-use Rattle.protocol.specs.Effects.{State as Board}
+use Rattle.board.specs.Effects.{State as Board}
 use Rattle.isolation.specs.Calls.{Call, start, put, merge, read, look, commit, abandon, settle, deliver, resend, does, Typed}
 use Rattle.isolation.specs.Events.{Event, seen_all, written_by}
 use Rattle.isolation.specs.Groups as groups

@@ -17,7 +17,7 @@ use Rattle.tables.specs.declared.place.Place.{Place}
 use Rattle.tables.specs.declared.place.Place.TheVariants.{Free, Open, Waiting, Committed, Aborted}
 use Rattle.tables.proofs.Owners.{lock_of, Single}
 use Rattle.tables.proofs.Serials.{Distinct}
-use Rattle.protocol.specs.Effects.{State as Board}
+use Rattle.board.specs.Effects.{State as Board}
 use Rattle.isolation.specs.Books.{nothing, Told, Seen}
 use Rattle.isolation.specs.Laws.{Writes}
 use Rattle.isolation.specs.Machine.{Phase, unknown, opened, waits, Holder, free, held, Message, prepare, vote_yes, vote_no, abort, propagate, ack, durable, State, MayWrite, Move, rest, silent, Among, Onward, then, Run, fresh}

@@ -7,9 +7,9 @@ use Rattle.record.specs.declared.message.Record.{Record}
 use Rattle.record.specs.Clocks.{entry_of, covered, reached}
 use Rattle.record.specs.Rows.{row_of, zero_clock}
 use Rattle.record.specs.Verdicts.{and_then, need}
-use Rattle.protocol.specs.Commits.{buffer_fits}
+use Rattle.board.specs.Commits.{buffer_fits}
 use Rattle.bus.specs.Received.{received}
-use Rattle.protocol.specs.Effects.{State as Board}
+use Rattle.board.specs.Effects.{State as Board}
 use Rattle.isolation.specs.Books.{nothing}
 use Rattle.isolation.specs.Calls.{does, deliver}
 use Rattle.isolation.specs.Events.{Event, seen_all, written_by}
@@ -29,7 +29,7 @@ use Rattle.record.specs.declared.fault.Denial.TheVariants.{Early}
 use Rattle.record.specs.declared.kind.RecordKind.TheVariants.{Propagate}
 use Rattle.keeper.specs.Logs.{admitted}
 use Rattle.tables.specs.Changes.{with_got}
-use Rattle.protocol.specs.Delivers.{is_next, may_take}
+use Rattle.board.specs.Delivers.{is_next, may_take}
 use Rattle.bus.specs.Records.{ack}
 use Rattle.isolation.proofs.Boards.{with_row, at_taken}
 use Rattle.isolation.proofs.Reaching.{reaches}

@@ -8,9 +8,9 @@ use Rattle.record.specs.declared.message.Record.{Record}
 use Rattle.record.specs.declared.row.Row.{Row}
 use Rattle.record.specs.Rows.{updates_of, row_of, record_of, zero_clock}
 use Rattle.record.specs.Verdicts.{and_then}
-use Rattle.protocol.specs.Commits.{buffer_fits}
+use Rattle.board.specs.Commits.{buffer_fits}
 use Rattle.bus.specs.Received.{received}
-use Rattle.protocol.specs.Effects.{State as Board}
+use Rattle.board.specs.Effects.{State as Board}
 use Rattle.isolation.specs.Books.{nothing}
 use Rattle.isolation.specs.Calls.{does, deliver}
 use Rattle.isolation.specs.Events.{Event, seen_all, written_by, first_propagate}
@@ -32,7 +32,7 @@ use Rattle.tables.specs.Changes.{placed, released, with_own}
 use Rattle.tables.specs.Places.{has_serial, place_of}
 use Rattle.tables.specs.declared.place.Place.{Place}
 use Rattle.tables.specs.declared.place.Place.TheVariants.{Free, Open, Waiting, Committed, Aborted}
-use Rattle.protocol.specs.Commits.{may_append, propagates}
+use Rattle.board.specs.Commits.{may_append, propagates}
 use Rattle.queries.specs.Logs.{find_row}
 use Rattle.bus.specs.Records.{abort, others, to_others}
 use Rattle.isolation.specs.Machine.{vote_yes, waits, committed, dead}

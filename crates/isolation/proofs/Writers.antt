@@ -1,5 +1,5 @@
 -- Updates write a regular object if one of them is of it.
-use Rattle.std.proofs.Common.{◌≡◌, ℕ, Bool, true, false, ◌||◌, eqb, ◌≢◌, List, [], ◌∷◌, None, refl, ◌∙◌, arith}
+use Rattle.std.proofs.Common.{◌≡◌, ℕ, Bool, true, false, ◌||◌, eqb, List, [], ◌∷◌, None, refl, ◌∙◌, arith}
 use Rattle.std.proofs.lemmas.Bool.Decides.{nat_tests}
 use Rattle.record.specs.declared.row.Update.{Update}
 use Rattle.record.specs.Updates.{put_by, last_put}
@@ -15,16 +15,9 @@ untouched : (us : List Update) (o : ℕ) → touches us o ≡ false → last_put
 untouched [] o e = refl
 untouched (u ∷ us) o e = puts_over o (put_by o None u) us ∙ grind (arith, nat_tests, untouched us o)
 
-touched : (us : List Update) (o : ℕ) → touches us o ≡ true → last_put o us ≢ None
-touched [] o e q = grind arith
-touched (u ∷ us) o e q = let p = puts_over o (put_by o None u) us in grind (arith, nat_tests, touched us o)
-
 pub writes_touches : (regular : ℕ → Bool) (us : List Update) (o : ℕ) → Writes regular us o → touches us o ≡ true
 writes_touches regular us o w = by (touches us o) refl
   where
     by : (x : Bool) → touches us o ≡ x → x ≡ true
     by true e = refl
     by false e = absurd (w.1 (untouched us o e))
-
-pub touches_writes : (regular : ℕ → Bool) (us : List Update) (o : ℕ) → regular o ≡ true → touches us o ≡ true → Writes regular us o
-touches_writes regular us o r e = (r, touched us o e)

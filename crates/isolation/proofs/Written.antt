@@ -1,6 +1,5 @@
 -- The records that go with the moves may be written.
-use Rattle.std.proofs.Common.{◌≡◌, ℕ, suc, ◌<◌, Bool, true, ◌≢◌, List, [], Some, None, sym, refl, subst, arith}
-use mathlib.Core.List.Memᴰ
+use Rattle.std.proofs.Common.{◌≡◌, ℕ, suc, ◌<◌, Bool, true, ◌≢◌, List, Some, None, sym, refl, subst, arith}
 use Rattle.std.proofs.lemmas.Bool.Decides.{nat_tests}
 use Rattle.record.specs.declared.row.Update.{Update}
 use Rattle.record.specs.declared.row.Row.{Row}
@@ -14,9 +13,6 @@ Copies ms x = (m : Message) → Among ms m → m ≡ x
 module _ (Writes : List Update → ℕ → Type 0) (pref : ℕ → ℕ) (s : State) (R : Message → Type 0) where
   pub may_copies : (ms : List Message) (x : Message) → Copies ms x → MayWrite Writes pref s R x → (m : Message) → Among ms m → MayWrite Writes pref s R m
   may_copies ms x same may m a = subst (MayWrite Writes pref s R) (sym (same m a)) may
-
-  pub may_none : (m : Message) → Among [] m → MayWrite Writes pref s R m
-  may_none m a = absurd (Memᴰ.not-nil a)
 
 module _ (Writes : List Update → ℕ → Type 0) (pref : ℕ → ℕ) (s : State) (R : Message → Type 0) (I : Invariant Writes pref s R) where
   -- PROPAGATE, with a commit, and again

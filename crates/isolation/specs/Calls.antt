@@ -3,11 +3,11 @@ use Rattle.std.specs.Prelude.{ℕ, ◌<◌, Bool, List, ℤ, Ok, Err, Option, Re
 use Rattle.std.specs.Int.{w32}
 use Rattle.record.specs.declared.fault.Fault.{Fault}
 use Rattle.record.specs.declared.message.Record.{Record}
-use Rattle.protocol.specs.Effects.{State, Effect}
+use Rattle.board.specs.Effects.{State, Effect, leaves}
 use Rattle.board.specs.Transactions as transactions
-use Rattle.protocol.specs.Commits as commits
-use Rattle.protocol.specs.Resends as resends
-use Rattle.protocol.specs.Delivers as delivers
+use Rattle.board.specs.Commits as commits
+use Rattle.board.specs.Resends as resends
+use Rattle.board.specs.Delivers as delivers
 
 -- a transaction is named by its home and serial, as its token bears them; room is the length of the outgoing buffer
 pub data Call : Type 0 where
@@ -51,12 +51,11 @@ abbrev answer_of : {A : Type 0} → (A → Answer) → Result A Fault → Answer
 answer_of ok (Ok a) = ok a
 answer_of ok (Err fault) = denied fault
 
--- the keeper's capacity stays
 abbrev returned : {A : Type 0} → (A → Answer) → State → Effect A → Returned
 returned ok s e =
     record {
       answer = answer_of ok e.answer;
-      board = record { tables = e.tables; rows = e.rows; capacity = s.capacity };
+      board = leaves s e;
       written = e.written;
     }
 

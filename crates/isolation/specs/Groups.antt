@@ -8,7 +8,7 @@ use Rattle.tables.specs.Fresh.{fresh}
 use Rattle.config.specs.Builds.{build_check}
 use Rattle.config.specs.declared.config.Config.{Config}
 use Rattle.config.specs.declared.config.Container.{Container}
-use Rattle.protocol.specs.Effects.{State}
+use Rattle.board.specs.Effects.{State}
 use Rattle.isolation.specs.Calls.{Call, start, put, merge, read, look, commit, abandon, settle, deliver, resend, Answer, denied, does, Typed}
 use Rattle.isolation.specs.Events.{Event, written_by}
 

@@ -4,7 +4,7 @@ use Rattle.record.specs.Clocks.{entry_of}
 use Rattle.record.specs.Updates.{last_put}
 use Rattle.merging.specs.Values.{value_after}
 use Rattle.config.specs.Objects.{is_regular}
-use Rattle.protocol.specs.Effects.{State}
+use Rattle.board.specs.Effects.{State}
 use Rattle.board.specs.Transactions.{read, look}
 use Rattle.queries.specs.Walks.{word_of}
 use Rattle.isolation.specs.Books.{transaction, book}

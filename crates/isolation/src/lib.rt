@@ -15,7 +15,7 @@ pub fn machine_is_isolated<M: MergingKind>() -> u8
 
 /// Every run of every group of boards is isolated, for every merging kind. It computes nothing: its contract is the theorem.
 pub fn boards_are_isolated<M: MergingKind>() -> u8
-    ensures isolated { Isolated M.number M.origin M.stepped }
+    ensures isolated { Isolated M.NUMBER M.origin M.stepped }
 {
     0
 }

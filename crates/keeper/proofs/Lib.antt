@@ -1,4 +1,1 @@
-pub mod Fronts
-pub mod Slotted
-pub mod AreaLog
-pub mod FirstLast
+pub mod Slots

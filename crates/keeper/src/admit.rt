@@ -12,7 +12,7 @@ const MOST_ROWS: usize = 4096;
 pub(crate) fn fits(rows: usize) -> bool
     ensures { result ≡ fitting rows }
 {
-    1 <= rows && rows <= MOST_ROWS
+    (1..=MOST_ROWS).contains(&rows)
 }
 
 /// Denies a row that breaks a rule, and then any row where `count` has reached the capacity.
@@ -25,6 +25,6 @@ pub(crate) fn admit(row: &Row, count: usize, capacity: usize) -> Result<(), Faul
     if count < capacity {
         Ok(())
     } else {
-        Err(Fault::keeper(Denial::LogFull))
+        Err(Fault::Keeper(Denial::LogFull))
     }
 }

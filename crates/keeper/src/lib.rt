@@ -4,7 +4,6 @@
 mod admit;
 mod area;
 mod log;
-mod slots;
 mod table;
 
 pub use area::RecordArea;

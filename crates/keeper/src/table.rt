@@ -1,18 +1,18 @@
 //! A log kept as rows in a table.
-ghost use Rattle.std.specs.Prelude.{◌≡◌, ◌+◌, ◌<◌, [], ◌∷◌, ◌++◌, length, slice_index_or};
-ghost use Rattle.record.specs.Rows.{zero_row};
+ghost use Rattle.std.specs.Prelude.{◌≡◌, ◌≤◌, [], length};
 ghost use Rattle.keeper.specs.Tables.{table_rows, table_capacity, table_ready, table_within, table_sized};
 
 use crate::admit::{admit, fits};
 use crate::log::LogKeeper;
 use record::{Fault, Row};
 
-/// A table of 1 to 4,096 rows that is lent to the log, which has the first `used` of them.
-/// No invariant ties `used` to the table's length: it is bounded where it is read.
+/// A table of 1 to 4,096 rows that is lent to the log, which has the first `used` of them: the memory is the firmware's, so that
+/// the count stands beside it.
 #[derive(Drop)]
 pub struct RowTable<'a> {
     rows: &'a mut [Row],
     used: usize,
+    ghost held: { used ≤ length rows.now },
 }
 
 impl<'a> RowTable<'a> {
@@ -24,33 +24,6 @@ impl<'a> RowTable<'a> {
     {
         RowTable { rows, used: 0 }
     }
-}
-
-/// How many rows are used; no more than there are.
-fn count_used(used: usize, rows: &[Row]) -> usize
-    ensures answer { result ≡ length (table_rows used rows.now) }
-    ensures counted { table_rows result rows.now ≡ table_rows used rows.now }
-{
-    used.min(rows.len())
-}
-
-/// The row at a place among those that are used; elsewhere the row of zeros.
-fn read_row(used: usize, rows: &[Row], place: usize) -> Row
-    ensures { result ≡ slice_index_or (table_rows used rows.now) place zero_row }
-{
-    if place < count_used(used, rows) {
-        rows[place]
-    } else {
-        Row::ZERO
-    }
-}
-
-/// Puts the row behind those that are used.
-fn put_row(rows: &mut [Row], used: usize, row: &Row)
-    requires { used < length rows.old }
-    ensures { table_rows (used + 1) rows.new ≡ table_rows used rows.old ++ row.now ∷ [] }
-{
-    rows[used] = *row;
 }
 
 impl LogKeeper for RowTable<'_> {
@@ -72,18 +45,20 @@ impl LogKeeper for RowTable<'_> {
         ensures answer { result ≡ length (table_rows self.now.used self.now.rows.now) }
         ensures counted { table_rows result self.now.rows.now ≡ table_rows self.now.used self.now.rows.now }
     {
-        count_used(self.used, self.rows)
+        self.used
     }
 
     fn row_at(&self, place: usize) -> Row {
-        read_row(self.used, self.rows, place)
+        self.rows[..self.used]
+            .get(place)
+            .copied()
+            .unwrap_or(Row::ZERO)
     }
 
     fn append(&mut self, row: &Row) -> Result<(), Fault> {
-        let used = self.count();
-        admit(row, used, self.rows.len())?;
-        put_row(self.rows, used, row);
-        self.used = used + 1;
+        admit(row, self.used, self.rows.len())?;
+        self.rows[self.used] = *row;
+        self.used += 1;
         Ok(())
     }
 }

@@ -1,11 +1,10 @@
 //! A table and an area, driven with the same rows.
-use crate::difference::Difference;
+use crate::difference::{Difference, Verdict};
 use crate::random::Random;
 use crate::samples::Sample;
 use crate::tally::Tally;
-use crate::verdict::Verdict;
 use keeper::{LogKeeper, RecordArea, RowTable};
-use record::Row;
+use record::{Fault, Row};
 use std::io;
 
 /// The most rows of a log here.
@@ -14,12 +13,7 @@ const MOST: usize = 64;
 /// The first place, from 0 to that behind the end, at which the logs have different rows.
 fn first_apart<T: LogKeeper, A: LogKeeper>(table: &T, area: &A) -> Option<usize> {
     let end = table.count().min(MOST);
-    for place in 0..end + 1 {
-        if table.row_at(place) != area.row_at(place) {
-            return Some(place);
-        }
-    }
-    None
+    (0..=end).find(|place| table.row_at(*place) != area.row_at(*place))
 }
 
 /// Appends the sample to both logs, which have `kept` rows, and looks for a difference in what they answer and what they hold.
@@ -28,22 +22,18 @@ fn append<T: LogKeeper, A: LogKeeper>(
     area: &mut A,
     sample: &Sample,
     kept: usize,
-    expected: Verdict,
+    expected: Result<(), Fault>,
 ) -> Option<Difference> {
-    let by_table = Verdict::of(table.append(&sample.row));
-    let by_area = Verdict::of(area.append(&sample.row));
+    let by_table = table.append(&sample.row);
+    let by_area = area.append(&sample.row);
     if by_table != expected || by_area != expected {
         return Some(Difference::Answer {
-            expected,
-            table: by_table,
-            area: by_area,
+            expected: Verdict(expected),
+            table: Verdict(by_table),
+            area: Verdict(by_area),
         });
     }
-    let after = if expected.is_taken() {
-        kept.saturating_add(1)
-    } else {
-        kept
-    };
+    let after = kept.saturating_add(expected.is_ok() as usize);
     if table.count() != after || area.count() != after {
         return Some(Difference::Count {
             expected: after,
@@ -51,13 +41,10 @@ fn append<T: LogKeeper, A: LogKeeper>(
             area: area.count(),
         });
     }
-    if expected.is_taken() && area.row_at(kept) != sample.row {
+    if expected.is_ok() && area.row_at(kept) != sample.row {
         return Some(Difference::Last);
     }
-    match first_apart(table, area) {
-        Some(place) => Some(Difference::Row { place }),
-        None => None,
-    }
+    first_apart(table, area).map(|place| Difference::Row { place })
 }
 
 /// Appends samples to a fresh table and a fresh area, past the time when they are full, and prints where they differ.
@@ -68,23 +55,21 @@ pub fn drive(
     tally: &mut Tally,
 ) -> io::Result<()> {
     let capacity = capacity.min(MOST);
-    let mut rows = [Row::ZERO; 64];
-    let mut bytes = [255; 4096];
-    let mut table = RowTable::over(&mut rows[0..capacity]);
-    let mut area = RecordArea::over(&mut bytes[0..64 * capacity]);
+    let mut rows = [Row::ZERO; MOST];
+    let mut bytes = [255; 64 * MOST];
+    let mut table = RowTable::over(&mut rows[..capacity]);
+    let mut area = RecordArea::over(&mut bytes[..64 * capacity]);
     let mut kept: usize = 0;
     for _ in 0..3 * capacity + 12 {
         let sample = Sample::random(random);
-        let expected = Verdict::expected(&sample, kept, capacity);
-        tally.note(expected.number);
+        let expected = sample.answer(kept < capacity);
+        tally.note(expected);
         if let Some(difference) = append(&mut table, &mut area, &sample, kept, expected) {
             tally.differ();
             let number = tally.appends;
             println!(rt; "capacity {capacity}, append {number}: {difference}")?;
         }
-        if expected.is_taken() {
-            kept = kept.saturating_add(1);
-        }
+        kept = kept.saturating_add(expected.is_ok() as usize);
     }
     Ok(())
 }

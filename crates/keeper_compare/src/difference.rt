@@ -1,6 +1,25 @@
 //! Where two logs differ, from each other or from what is expected.
-use crate::verdict::Verdict;
+use record::Fault;
 use std::fmt;
+
+/// What an append answered or is to answer.
+#[derive(Clone, Copy, PartialEq, Eq)]
+pub struct Verdict(pub Result<(), Fault>);
+
+impl fmt::Display for Verdict {
+    fn fmt<W: fmt::Write>(&self, f: &mut fmt::Formatter<W>) -> fmt::Result {
+        match self.0 {
+            Ok(()) => write!(f, "taken"),
+            Err(fault) => write!(
+                f,
+                "denied with {} of layer {} at {}",
+                fault.number(),
+                fault.layer(),
+                fault.place()
+            ),
+        }
+    }
+}
 
 #[derive(Clone, Copy)]
 pub enum Difference {

@@ -6,7 +6,6 @@ mod difference;
 mod random;
 mod samples;
 mod tally;
-mod verdict;
 
 use compare::drive;
 use random::Random;
@@ -20,14 +19,14 @@ const ROUNDS: u32 = 16;
 
 fn main(rt: HostRuntime) -> io::Result<()> {
     let mut random = Random::seeded(0x2545_f491_4f6c_dd1d);
-    let mut total = Tally::NONE;
-    for capacity in &CAPACITIES {
-        let mut tally = Tally::NONE;
+    let mut total = Tally::default();
+    for capacity in CAPACITIES {
+        let mut tally = Tally::default();
         for _ in 0..ROUNDS {
-            drive(&rt, &mut random, *capacity, &mut tally)?;
+            drive(&rt, &mut random, capacity, &mut tally)?;
         }
         println!(rt; "capacity {capacity}: {tally}")?;
-        total.add(&tally);
+        total += tally;
     }
     println!(rt; "total: {total}")
 }

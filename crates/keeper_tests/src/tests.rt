@@ -1,7 +1,7 @@
 //! Both keepers on memory of every size, filled to the end and past it, with rows that break a rule.
 use crate::keeps;
 use keeper::{LogKeeper, RecordArea, RowTable};
-use record::{Clock, Fault, NOBODY, RecordKind, Row, Update};
+use record::{Clock, Denial, Fault, NOBODY, RecordKind, Row, Update};
 use std::process::Abort;
 use std::test::Fail;
 
@@ -32,34 +32,24 @@ fn row(serial: u32) -> Row {
     }
 }
 
-fn denied(answer: Result<(), Fault>, layer: u8, number: u8, place: u32) -> bool {
-    answer.err()
-        == Some(Fault {
-            layer,
-            number,
-            place,
-        })
-}
-
 /// Whether the log has the rows of the serials 1 to `last`, and no other.
 fn holds<K: LogKeeper>(log: &K, last: u16) -> bool {
-    for place in 0..last {
-        if log.row_at(place as usize) != row(place as u32 + 1) {
-            return false;
-        }
-    }
     let count = last as usize;
-    log.count() == count && log.row_at(count) == Row::ZERO && log.row_at(usize::MAX) == Row::ZERO
+    (0..last).all(|place| log.row_at(place as usize) == row(place as u32 + 1))
+        && log.count() == count
+        && log.row_at(count) == Row::ZERO
+        && log.row_at(usize::MAX) == Row::ZERO
 }
 
 /// Denies two bad rows, whether or not there is room.
 fn denies_bad_rows<K: LogKeeper>(rt: &impl Abort, log: &mut K) {
-    let mut no_serial = row(1);
-    no_serial.serial = 0;
-    assert!(rt; denied(log.append(&no_serial), 3, 3, 4));
-    let mut no_home = row(1);
-    no_home.home = 8;
-    assert!(rt; denied(log.append(&no_home), 3, 3, 1));
+    let no_serial = Row {
+        serial: 0,
+        ..row(1)
+    };
+    assert_eq!(rt; log.append(&no_serial), Err(Fault::Record(4)));
+    let no_home = Row { home: 8, ..row(1) };
+    assert_eq!(rt; log.append(&no_home), Err(Fault::Record(1)));
 }
 
 /// Fills a fresh log, and tries one row more.
@@ -68,10 +58,11 @@ fn fills<K: LogKeeper>(rt: &impl Abort, log: &mut K, capacity: u16) {
     denies_bad_rows(rt, log);
     assert!(rt; holds(log, 0));
     for place in 0..capacity {
-        assert!(rt; log.append(&row(place as u32 + 1)).is_ok());
+        assert_eq!(rt; log.append(&row(place as u32 + 1)), Ok(()));
     }
     assert!(rt; holds(log, capacity));
-    assert!(rt; denied(log.append(&row(capacity as u32 + 1)), 4, 11, 0));
+    let full = Err(Fault::Keeper(Denial::LogFull));
+    assert_eq!(rt; log.append(&row(capacity as u32 + 1)), full);
     denies_bad_rows(rt, log);
     assert!(rt; holds(log, capacity));
 }
@@ -134,7 +125,7 @@ fn an_area_holds_records_and_255(rt: HostRuntime) {
     let record = row(5).to_record(RecordKind::Row, NOBODY).to_bytes();
     let mut area = [255; 128];
     assert!(rt; keeps(&mut area, &row(5)));
-    assert!(rt; area[0..64] == record[0..64]);
-    assert!(rt; area[64..128] == [255; 64][0..64]);
+    assert!(rt; area[..64] == record[..]);
+    assert!(rt; area[64..] == [255; 64][..]);
     assert!(rt; !keeps(&mut area, &Row::ZERO));
 }

@@ -15,7 +15,7 @@ impl MergingKind for Count {
 
     const NUMBER: u8 = 1;
 
-    ghost number = { 1 };
+    ghost NUMBER = { 1 };
 
     ghost origin = { pos 0 };
 
@@ -30,10 +30,6 @@ impl MergingKind for Count {
         let either : (v +ℤ a) +ℤ b ≡ (v +ℤ b) +ℤ a = omega (arith, ints) in
         int_wrap-add_left w32 (v +ℤ a) b ∙ ap (int_wrap w32) either ∙ sym (int_wrap-add_left w32 (v +ℤ b) a) };
 
-    fn kind_number() -> u8 {
-        Self::NUMBER
-    }
-
     fn first() -> i32 {
         0
     }
@@ -42,14 +38,8 @@ impl MergingKind for Count {
         operand == 1 || operand == -1
     }
 
+    #[tactic(auto, using(std::proofs::lemmas::Int::wraps))]
     fn step(value: i32, operand: i32) -> i32 {
-        sum(value, operand)
+        value.wrapping_add(operand)
     }
-}
-
-/// The sum in signed 32 bits, wrapping.
-fn sum(value: i32, operand: i32) -> i32
-    ensures answer { result ≡ added value operand }
-{
-    value.wrapping_add(operand)
 }

@@ -1,48 +1,52 @@
 //! The value of one element after a list of updates.
 ghost use Rattle.std.specs.Prelude.{◌≡◌, List};
 ghost use Rattle.std.specs.List.Sorted.{IsPermutation};
-ghost use Rattle.merging.specs.Values.{updated, value_after};
+ghost use Rattle.merging.specs.Values.{concerns, updated, value_after};
 
 use crate::kind::MergingKind;
 use record::Update;
 
-/// The value stepped by the update, if that is of this element of this object.
-fn step_by<M: MergingKind>(value: M::Value, update: &Update, object: u16, element: u16) -> M::Value
-    ensures answer { result ≡ updated M.stepped object element value update.now }
+/// One element of an object of a merging kind.
+#[derive(Clone, Copy, PartialEq, Eq, Debug)]
+pub struct ElementId {
+    pub object: u16,
+    pub element: u16,
+}
+
+impl ElementId {
+    /// Whether the update is of this element.
+    fn is_updated_by(self, update: &Update) -> bool
+        ensures { result ≡ concerns self.object self.element update.now }
+    {
+        update.object == self.object && update.element == self.element
+    }
+}
+
+/// The value stepped by the update, if that is of this element.
+fn step_by<M: MergingKind>(value: M::Value, update: &Update, of: ElementId) -> M::Value
+    ensures answer { result ≡ updated M.stepped of.object of.element value update.now }
 {
-    if update.object == object && update.element == element {
+    if of.is_updated_by(update) {
         M::step(value, update.operand)
     } else {
         value
     }
 }
 
+// Apart from `merged`, which then needs no proof file: an edit of it is refused by its contract.
 /// The value stepped by each update in turn.
-fn step_through<M: MergingKind>(
-    mut value: M::Value,
-    updates: &[Update],
-    object: u16,
-    element: u16,
-) -> M::Value
-    ensures answer { result ≡ value_after M.stepped object element value updates.now }
-    ensures reordered { (others : List Update) → IsPermutation updates.now others → value_after M.stepped object element value others ≡ result }
+fn step_through<M: MergingKind>(value: M::Value, updates: &[Update], of: ElementId) -> M::Value
+    ensures answer { result ≡ value_after M.stepped of.object of.element value updates.now }
 {
-    for update in updates {
-        value = step_by::<M>(value, update, object, element);
-    }
-    value
+    updates
+        .iter()
+        .fold(value, |value, update| step_by::<M>(value, update, of))
 }
 
-/// The value of this element of this object once the updates have changed it, from `value` on.
-/// The updates in any other order give the same.
-pub fn merged<M: MergingKind>(
-    value: M::Value,
-    updates: &[Update],
-    object: u16,
-    element: u16,
-) -> M::Value
-    ensures answer { result ≡ value_after M.stepped object element value updates.now }
-    ensures reordered { (others : List Update) → IsPermutation updates.now others → value_after M.stepped object element value others ≡ result }
+/// The value of this element once the updates have changed it, from `value` on. The updates in any other order give the same.
+pub fn merged<M: MergingKind>(value: M::Value, updates: &[Update], of: ElementId) -> M::Value
+    ensures answer { result ≡ value_after M.stepped of.object of.element value updates.now }
+    ensures reordered { (others : List Update) → IsPermutation updates.now others → value_after M.stepped of.object of.element value others ≡ result }
 {
-    step_through::<M>(value, updates, object, element)
+    step_through::<M>(value, updates, of)
 }

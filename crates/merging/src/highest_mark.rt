@@ -13,7 +13,7 @@ impl MergingKind for HighestMark {
 
     const NUMBER: u8 = 2;
 
-    ghost number = { 2 };
+    ghost NUMBER = { 2 };
 
     ghost origin = { None };
 
@@ -24,10 +24,6 @@ impl MergingKind for HighestMark {
     ghost numbered = { Prim.search rules };
 
     ghost order = { Prim.search rules };
-
-    fn kind_number() -> u8 {
-        Self::NUMBER
-    }
 
     fn first() -> Option<i32> {
         None

@@ -10,17 +10,13 @@ pub trait MergingKind {
     /// The number of the kind, from 1 up.
     const NUMBER: u8;
 
-    ghost number: { ℕ };
+    ghost NUMBER: { ℕ };
 
     ghost origin: { Self.Value };
 
     ghost admitted: { ℤ → Bool };
 
     ghost stepped: { Self.Value → ℤ → Self.Value };
-
-    /// The number of the kind, for generic code, whose proofs do not see the value of `NUMBER`.
-    fn kind_number() -> u8
-        ensures answer { result ≡ number };
 
     /// The value of an element before its first operand.
     fn first() -> Self::Value
@@ -34,7 +30,7 @@ pub trait MergingKind {
     fn step(value: Self::Value, operand: i32) -> Self::Value
         ensures answer { result ≡ stepped value operand };
 
-    ghost numbered: { 1 ≤ number };
+    ghost numbered: { 1 ≤ NUMBER };
 
     // From every value, stepping by any two operands, admitted or not, ends alike in either order.
     ghost order: { (v : Self.Value) (a b : ℤ) → stepped (stepped v a) b ≡ stepped (stepped v b) a };

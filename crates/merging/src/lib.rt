@@ -7,6 +7,6 @@ mod highest_mark;
 mod kind;
 
 pub use count::Count;
-pub use fold::merged;
+pub use fold::{ElementId, merged};
 pub use highest_mark::HighestMark;
 pub use kind::MergingKind;

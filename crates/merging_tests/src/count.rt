@@ -4,7 +4,6 @@ use merging::{Count, MergingKind};
 #[test]
 fn is_kind_1(rt: HostRuntime) {
     assert_eq!(rt; Count::NUMBER, 1);
-    assert_eq!(rt; Count::kind_number(), 1);
 }
 
 #[test]

@@ -4,7 +4,6 @@ use merging::{HighestMark, MergingKind};
 #[test]
 fn is_kind_2(rt: HostRuntime) {
     assert_eq!(rt; HighestMark::NUMBER, 2);
-    assert_eq!(rt; HighestMark::kind_number(), 2);
 }
 
 #[test]

@@ -1,25 +1,24 @@
 //! How a panel's firmware holds a transaction: every path ends it or hands it on. The edits in `refused/` are of this crate.
 #![tactic(auto)]
 
-use board::{Board, CommitAnswer, OpenTransaction, SettleAnswer, WaitingTransaction};
+use board::{Board, OpenTransaction, WaitingTransaction};
 use keeper::LogKeeper;
 use record::Fault;
 
-/// Changes one word. What is denied is given up.
+/// Changes one word, and answers as commit does. What is denied is given up.
 pub(crate) fn change<K: LogKeeper>(
     board: &mut Board<K>,
     object: u16,
     word: u32,
     out: &mut [u8],
-) -> Result<CommitAnswer, Fault> {
-    let of = board.start()?;
+) -> Result<((u8, u16, usize), Option<WaitingTransaction>), (Option<OpenTransaction>, Fault)> {
+    let of = board.start().map_err(|fault| (None, fault))?;
     if let Err(fault) = board.put(&of, object, word) {
-        return give_up(board, of, fault);
+        return Err(give_up(board, of, fault));
     }
     match board.commit(of, out) {
-        CommitAnswer::Ended(answer) => Ok(CommitAnswer::Ended(answer)),
-        CommitAnswer::Waits(of, answer) => Ok(CommitAnswer::Waits(of, answer)),
-        CommitAnswer::Denied(of, fault) => give_up(board, of, fault),
+        Ok(answer) => Ok(answer),
+        Err((of, fault)) => Err(give_up(board, of, fault)),
     }
 }
 
@@ -28,10 +27,10 @@ fn give_up<K: LogKeeper>(
     board: &mut Board<K>,
     of: OpenTransaction,
     why: Fault,
-) -> Result<CommitAnswer, Fault> {
+) -> (Option<OpenTransaction>, Fault) {
     match board.abandon(of) {
-        Ok(()) => Err(why),
-        Err((of, fault)) => Ok(CommitAnswer::Denied(of, fault)),
+        Ok(()) => (None, why),
+        Err((of, fault)) => (Some(of), fault),
     }
 }
 
@@ -41,8 +40,7 @@ pub(crate) fn look_after<K: LogKeeper>(
     of: WaitingTransaction,
 ) -> Result<(u8, u16, Option<WaitingTransaction>), Fault> {
     match board.settle(of) {
-        SettleAnswer::Ended((outcome, number)) => Ok((outcome, number, None)),
-        SettleAnswer::Waits(of, (outcome, number)) => Ok((outcome, number, Some(of))),
-        SettleAnswer::Denied(_, fault) => Err(fault),
+        Ok(((outcome, number), waiting)) => Ok((outcome, number, waiting)),
+        Err((_, fault)) => Err(fault),
     }
 }

@@ -1,5 +1,3 @@
-mod Finds
+mod Found
 mod Covered
 mod Puts
-mod Looks
-mod Sights

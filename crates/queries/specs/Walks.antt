@@ -1,5 +1,6 @@
 -- What a transaction sees of a log, row by row.
-use Rattle.std.specs.Prelude.{ℕ, cond, List, [], ◌++◌, ℤ, Some, None, Option}
+use Rattle.std.specs.Prelude.{ℕ, cond, List, [], ◌++◌, ℤ, Option}
+use Rattle.std.specs.Option.{option_map}
 use Rattle.std.proofs.Common.{of_z}
 use Rattle.std.specs.Int.{w32}
 use Rattle.record.specs.Rows.{updates_of}
@@ -18,5 +19,4 @@ visible rows r = covered_updates rows r.start ++ updates_of r
 
 -- the word that an operand stands for
 abbrev pub word_of : Option ℤ → Option ℕ
-word_of None = None
-word_of (Some operand) = Some (of_z w32 operand)
+word_of operand = option_map (of_z w32) operand

@@ -3,6 +3,7 @@
 
 mod clash;
 mod find;
+mod rows;
 mod seen;
 
 pub use clash::has_clash;

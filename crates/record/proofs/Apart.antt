@@ -1,5 +1,5 @@
 -- What is read from the rest of a record after its first four bytes is what stands in the record four places on.
-use Rattle.std.proofs.Common.{◌≡◌, ℕ, ◌+◌, ◌-◌, true, eqb, List, length, get_or, take, drop, Some, Option, Result, sym, ap, ◌∙◌}
+use Rattle.std.proofs.Common.{◌≡◌, ℕ, ◌+◌, ◌-◌, true, eqb, List, length, get_or, take, drop, Some, None, Ok, Err, Option, Result, sym, refl, ap, ◌∙◌}
 use Rattle.std.proofs.lemmas.List.{take_rest, get_or-drop}
 use Rattle.std.proofs.lemmas.Bool.{eq-eqb}
 use Rattle.record.specs.declared.fault.Fault.{Fault}
@@ -62,10 +62,19 @@ made f bs serial number start updates =
       updates = updates;
     }
 
-pub decoded_from_rest : (bs : List ℕ) (f : KindRules) (serial number gap tail : ℕ) (start : Clock) (updates : List Update) → length bs ≡ 64 → Some f ≡ rules_of (get_or bs 0 0) → serial ≡ u32_at (rest_of bs) 0 → number ≡ u16_at (rest_of bs) 4 → start ≡ clock_at (rest_of bs) 8 → updates ≡ updates_at (rest_of bs) 24 → gap ≡ u16_at (rest_of bs) 6 → tail ≡ u32_at (rest_of bs) 56 → (o : Option ℕ) → o ≡ offence f (made f bs serial number start updates) gap tail → decoded bs ≡ unless o (made f bs serial number start updates)
-decoded_from_rest bs f serial number gap tail start updates n k es en et eu eg el o eo =
+pub decoded_from_rest : (bs : List ℕ) (f : KindRules) (serial number gap tail : ℕ) (start : Clock) (updates : List Update) → length bs ≡ 64 → Some f ≡ rules_of (get_or bs 0 0) → serial ≡ u32_at (rest_of bs) 0 → number ≡ u16_at (rest_of bs) 4 → start ≡ clock_at (rest_of bs) 8 → updates ≡ updates_at (rest_of bs) 24 → gap ≡ u16_at (rest_of bs) 6 → tail ≡ u32_at (rest_of bs) 56 → decoded bs ≡ unless (offence f (made f bs serial number start updates) gap tail) (made f bs serial number start updates)
+decoded_from_rest bs f serial number gap tail start updates n k es en et eu eg el =
     let m : record_at f.kind bs ≡ made f bs serial number start updates = sym (simp (es, en, et, eu) (from_rest_holds f.kind bs)) in
     let g : u16_at bs 10 ≡ gap = sym (eg ∙ rest_gap bs) in
     let t : u32_at bs 60 ≡ tail = sym (el ∙ rest_tail bs) in
     let was : Record → ℕ → ℕ → Result Record Fault = λ x y z. unless (offence f x y z) x in
-    decoded_by bs f n k ∙ ap (λ x. was x (u16_at bs 10) (u32_at bs 60)) m ∙ ap (λ y. was (made f bs serial number start updates) y (u32_at bs 60)) g ∙ ap (λ z. was (made f bs serial number start updates) gap z) t ∙ ap (λ q. unless q (made f bs serial number start updates)) (sym eo)
+    decoded_by bs f n k ∙ ap (λ x. was x (u16_at bs 10) (u32_at bs 60)) m ∙ ap (λ y. was (made f bs serial number start updates) y (u32_at bs 60)) g ∙ ap (λ z. was (made f bs serial number start updates) gap z) t
+
+-- what a check that has passed, or denied, says of the record that is checked
+pub unless_passed : (o : Option ℕ) (r : Result (Unit {0}) Fault) (x : Record) → r ≡ unless o tt → r ≡ Ok tt → unless o x ≡ Ok x
+unless_passed None r x e p = refl
+unless_passed (Some place) r x e p = cc
+
+pub unless_denied : (o : Option ℕ) (r : Result (Unit {0}) Fault) (x : Record) (d : Fault) → r ≡ unless o tt → r ≡ Err d → unless o x ≡ Err d
+unless_denied None r x d e p = cc
+unless_denied (Some place) r x d e p = cc

@@ -1,7 +1,7 @@
 -- A record put into its bytes and taken out again is that record.
-use Rattle.std.proofs.Common.{◌≡◌, ℕ, ◌+◌, ◌*◌, ◌/◌, ◌%◌, ◌<◌, List, [], ◌∷◌, map, length, get_or, ℤ, Some, None, Ok, Option, Result, sym, refl, ap, ◌∙◌, subst, mod-eq_of_lt, arith, lit<, w32, SFits, to_z, of_z}
+use Rattle.std.proofs.Common.{◌≡◌, ℕ, ◌+◌, ◌*◌, ◌/◌, ◌%◌, ◌<◌, List, [], ◌∷◌, map, length, get_or, ℤ, Some, None, Ok, Option, Result, sym, refl, ap, ◌∙◌, subst, arith, lit<, w32, SFits, to_z, of_z}
 use mir.ValLaws.{of_z_fits}
-use Rattle.std.proofs.lemmas.Nat.{shr-shr, div-add-mod', div_below}
+use Rattle.std.proofs.lemmas.Nat.{from_le_bytes-to_le_bytes_2, from_le_bytes-to_le_bytes_4}
 use Rattle.std.specs.List.{range_with_len}
 use Rattle.std.proofs.lemmas.List.FromFn.{fill_by_all}
 use Rattle.std.proofs.lemmas.Int.{to_z-of_z}
@@ -20,19 +20,10 @@ use Rattle.record.specs.Rows.{no_update}
 use Rattle.record.specs.Rules.{by_kind, breaks, offence}
 
 pub word16 : (n : ℕ) → n < 65536 → n % 256 + n / 256 % 256 * 256 ≡ n
-word16 n h = omega arith
-
-sum32 : (n a b c r0 r1 r2 r3 : ℕ) → a * 256 + r0 ≡ n → b * 256 + r1 ≡ a → c * 256 + r2 ≡ b → r3 ≡ c → r0 + r1 * 256 + r2 * 65536 + r3 * 16777216 ≡ n
-sum32 n a b c r0 r1 r2 r3 ea eb ec er = omega arith
+word16 = from_le_bytes-to_le_bytes_2
 
 pub word32 : (n : ℕ) → n < 4294967296 → n % 256 + n / 256 % 256 * 256 + n / 65536 % 256 * 65536 + n / 16777216 % 256 * 16777216 ≡ n
-word32 n h =
-    let top : n / 16777216 < 256 = div_below n 16777216 256 (omega arith) h in
-    sum32 n (n / 256) (n / 65536) (n / 16777216) (n % 256) (n / 256 % 256) (n / 65536 % 256) (n / 16777216 % 256)
-    (div-add-mod' n 256)
-    (ap (λ q. q * 256 + n / 256 % 256) (sym (shr-shr n 8 8)) ∙ div-add-mod' (n / 256) 256)
-    (ap (λ q. q * 256 + n / 65536 % 256) (sym (shr-shr n 16 8)) ∙ div-add-mod' (n / 65536) 256)
-    (mod-eq_of_lt top)
+word32 = from_le_bytes-to_le_bytes_4
 
 pub word_signed : (z : ℤ) → SFits w32 z → to_z w32 (of_z w32 z % 256 + of_z w32 z / 256 % 256 * 256 + of_z w32 z / 65536 % 256 * 65536 + of_z w32 z / 16777216 % 256 * 16777216) ≡ z
 word_signed z h = ap (to_z w32) (word32 (of_z w32 z) (of_z_fits w32 z h).fits) ∙ to_z-of_z w32 z h

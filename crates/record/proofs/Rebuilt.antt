@@ -1,17 +1,19 @@
 -- Bytes that break no rule, taken apart and put together again, are those bytes.
-use Rattle.std.proofs.Common.{◌≡◌, ℕ, ◌+◌, ◌*◌, ◌/◌, ◌%◌, ◌<◌, Bool, true, false, cond, eqb, List, [], ◌∷◌, map, length, get_or, IfOk, Some, None, Ok, Err, Option, Result, sym, refl, ap, ◌∙◌, arith, w32, to_z, of_z}
-use Rattle.std.specs.List.{range_with_len, AllByRecursion as All}
+use Rattle.std.proofs.Common.{◌≡◌, ℕ, zero, suc, ◌+◌, ◌*◌, ◌/◌, ◌%◌, ◌<◌, Bool, true, false, cond, eqb, List, [], ◌∷◌, ◌++◌, map, length, get_or, IfOk, Some, None, Ok, Err, Option, Result, sym, refl, ap, ◌∙◌, arith, w32, to_z, of_z}
+use Rattle.std.specs.Option.{option_or}
+use Rattle.std.specs.List.{range_with_len, AllByRecursion as All, find}
 use Rattle.record.specs.declared.fault.Fault.{Fault}
 use Rattle.std.proofs.lemmas.List.FromFn.{fill_by_all}
 use Rattle.std.proofs.lemmas.Int.{of_z-to_z}
+use Rattle.std.proofs.lemmas.Nat.{le_bytes_4}
 use Rattle.std.proofs.lemmas.Bool.{eqb-true}
 use Rattle.std.proofs.lemmas.Bool.Decides.{nat_tests}
-use Rattle.record.proofs.Offences.{or_else, offence_is}
+use Rattle.record.proofs.Offences.{first_append}
 use Rattle.record.specs.declared.kind.RecordKind.{RecordKind}
 use Rattle.record.specs.declared.kind.KindRules.{KindRules}
 use Rattle.record.specs.declared.message.Record.{Record}
-use Rattle.record.specs.Kinds.{find, kinds, rules_of, code_of}
-use Rattle.record.specs.Numbers.{u16_at, u32_at}
+use Rattle.record.specs.Kinds.{kinds, rules_of, code_of}
+use Rattle.record.specs.Numbers.{u16_at, u32_at, u32_bytes}
 use Rattle.record.specs.Rules.{Rule, first, head_rules, clock_rules, update_rules, highest, used, rules, offence, breaks, by_kind}
 use Rattle.record.specs.Layout.{record_at, bytes_of}
 use Rattle.record.specs.Codec.{decoded, encoded, of_kind, unless}
@@ -19,9 +21,13 @@ use Rattle.record.specs.Faults.{misplaced}
 
 -- ## What it says that no rule is broken
 
-pub none_right : (a b : Option ℕ) → None ≡ or_else a b → None ≡ b
+pub none_right : (a b : Option ℕ) → None ≡ option_or a b → None ≡ b
 none_right None b e = e
 none_right (Some x) b e = cc
+
+-- rules of which none is broken end in rules of which none is
+none_after : (rs ss : List Rule) → None ≡ first (rs ++ ss) → None ≡ first ss
+none_after rs ss e = none_right (first rs) (first ss) (e ∙ first_append rs ss)
 
 pub none_first : (rs : List Rule) → None ≡ first rs → All (λ r. r.1 ≡ true) rs
 none_first [] e = tt
@@ -39,51 +45,57 @@ last tail e = grind (arith, nat_tests)
 
 pub none_tail : (f : KindRules) (m : Record) (gap tail : ℕ) → None ≡ offence f m gap tail → tail ≡ 0
 none_tail f m gap tail e =
-    last tail (none_right (first (update_rules (used f m) 28 m.updates)) _ (none_right (first (clock_rules (highest f) 12 m.start.entries)) _ (none_right (first (head_rules f m gap)) _ (e ∙ offence_is f m gap tail))))
+    let C : List Rule = clock_rules (highest f) 12 m.start.entries in
+    let U : List Rule = update_rules (used f m) 28 m.updates in
+    let L : List Rule = (60, eqb tail 0) ∷ [] in
+    last tail (none_after U L (none_after C (U ++ L) (none_after (head_rules f m gap) (C ++ (U ++ L)) e)))
 
-pub find_code : (code : ℕ) (fs : List KindRules) (f : KindRules) → Some f ≡ find code fs → code_of f.kind ≡ code
-find_code code [] f e = cc
-find_code code (g ∷ fs) f e =
-    let by : (v : Bool) → eqb (code_of g.kind) code ≡ v → Some f ≡ cond v (Some g) (find code fs) → code_of f.kind ≡ code =
-    λ v. elim v as (λ w. eqb (code_of g.kind) code ≡ w → Some f ≡ cond w (Some g) (find code fs) → code_of f.kind ≡ code)
-    [ true ↦ λ h q. (let s : f ≡ g = cc in ap (λ x. code_of x.kind) s ∙ eqb-true _ _ h) | false ↦ λ h q. find_code code fs f q ] in
-    by (eqb (code_of g.kind) code) refl e
+-- what a search finds has passed its test
+found_passes : {X : Type 0} (p : X → Bool) (xs : List X) (x : X) → Some x ≡ find p xs → p x ≡ true
+found_passes p [] x e = cc
+found_passes p (y ∷ ys) x e =
+    let by : (v : Bool) → p y ≡ v → Some x ≡ cond v (Some y) (find p ys) → p x ≡ true =
+    λ v. elim v as (λ w. p y ≡ w → Some x ≡ cond w (Some y) (find p ys) → p x ≡ true)
+    [ true ↦ λ h q. (let s : x ≡ y = cc in ap p s ∙ h) | false ↦ λ h q. found_passes p ys x q ] in
+    by (p y) refl e
+
+pub find_code : (code : ℕ) (f : KindRules) → Some f ≡ rules_of code → code_of f.kind ≡ code
+find_code code f e = eqb-true _ _ (found_passes (λ k. eqb (code_of k.kind) code) kinds f e)
 
 -- ## Numbers taken apart
 
 abbrev four : ℕ → ℕ → ℕ → ℕ → ℕ
 four a b c d = a + b * 256 + c * 65536 + d * 16777216
 
-by_256 : (a b c d : ℕ) → a < 256 → b < 256 → c < 256 → d < 256 → four a b c d / 256 ≡ b + c * 256 + d * 65536
-by_256 a b c d ha hb hc hd = omega arith
-
-by_65536 : (a b c d : ℕ) → a < 256 → b < 256 → c < 256 → d < 256 → four a b c d / 65536 ≡ c + d * 256
-by_65536 a b c d ha hb hc hd = omega arith
-
-by_16777216 : (a b c d : ℕ) → a < 256 → b < 256 → c < 256 → d < 256 → four a b c d / 16777216 ≡ d
-by_16777216 a b c d ha hb hc hd = omega arith
-
-rem_256 : (n a q : ℕ) → a < 256 → n ≡ a + q * 256 → n % 256 ≡ a
-rem_256 n a q h e = omega arith
+-- each element of a short list of bytes is one
+all_small : (a b c d : ℕ) → a < 256 → b < 256 → c < 256 → d < 256 → (i : ℕ) → get_or (a ∷ b ∷ c ∷ d ∷ []) i 0 < 256
+all_small a b c d ha hb hc hd zero = ha
+all_small a b c d ha hb hc hd (suc zero) = hb
+all_small a b c d ha hb hc hd (suc (suc zero)) = hc
+all_small a b c d ha hb hc hd (suc (suc (suc zero))) = hd
+all_small a b c d ha hb hc hd (suc (suc (suc (suc i)))) = omega arith
 
 module _ (bs : List ℕ) (small : (i : ℕ) → get_or bs i 0 < 256) where
   lo16 : (i j : ℕ) → (get_or bs i 0 + get_or bs j 0 * 256) % 256 ≡ get_or bs i 0
-  lo16 i j = rem_256 _ (get_or bs i 0) (get_or bs j 0) (small i) refl
+  lo16 i j = omega (arith, small i, small j)
 
   hi16 : (i j : ℕ) → (get_or bs i 0 + get_or bs j 0 * 256) / 256 % 256 ≡ get_or bs j 0
   hi16 i j = omega (arith, small i, small j)
 
+  word : (i j k l : ℕ) → u32_bytes (four (get_or bs i 0) (get_or bs j 0) (get_or bs k 0) (get_or bs l 0)) ≡ get_or bs i 0 ∷ get_or bs j 0 ∷ get_or bs k 0 ∷ get_or bs l 0 ∷ []
+  word i j k l = le_bytes_4 _ _ refl (all_small _ _ _ _ (small i) (small j) (small k) (small l)) refl
+
   at0 : (i j k l : ℕ) → four (get_or bs i 0) (get_or bs j 0) (get_or bs k 0) (get_or bs l 0) % 256 ≡ get_or bs i 0
-  at0 i j k l = rem_256 _ (get_or bs i 0) (get_or bs j 0 + get_or bs k 0 * 256 + get_or bs l 0 * 65536) (small i) (omega arith)
+  at0 i j k l = ap (λ ws. get_or ws 0 0) (word i j k l)
 
   at1 : (i j k l : ℕ) → four (get_or bs i 0) (get_or bs j 0) (get_or bs k 0) (get_or bs l 0) / 256 % 256 ≡ get_or bs j 0
-  at1 i j k l = rem_256 _ (get_or bs j 0) (get_or bs k 0 + get_or bs l 0 * 256) (small j) (by_256 _ _ _ _ (small i) (small j) (small k) (small l) ∙ omega arith)
+  at1 i j k l = ap (λ ws. get_or ws 1 0) (word i j k l)
 
   at2 : (i j k l : ℕ) → four (get_or bs i 0) (get_or bs j 0) (get_or bs k 0) (get_or bs l 0) / 65536 % 256 ≡ get_or bs k 0
-  at2 i j k l = rem_256 _ (get_or bs k 0) (get_or bs l 0) (small k) (by_65536 _ _ _ _ (small i) (small j) (small k) (small l))
+  at2 i j k l = ap (λ ws. get_or ws 2 0) (word i j k l)
 
   at3 : (i j k l : ℕ) → four (get_or bs i 0) (get_or bs j 0) (get_or bs k 0) (get_or bs l 0) / 16777216 % 256 ≡ get_or bs l 0
-  at3 i j k l = rem_256 _ (get_or bs l 0) 0 (small l) (by_16777216 _ _ _ _ (small i) (small j) (small k) (small l) ∙ omega arith)
+  at3 i j k l = ap (λ ws. get_or ws 3 0) (word i j k l)
 
   signed : (i j k l : ℕ) → of_z w32 (to_z w32 (four (get_or bs i 0) (get_or bs j 0) (get_or bs k 0) (get_or bs l 0))) ≡ four (get_or bs i 0) (get_or bs j 0) (get_or bs k 0) (get_or bs l 0)
   signed i j k l = of_z-to_z w32 _ (omega (arith, small i, small j, small k, small l))
@@ -120,7 +132,7 @@ decoded_only bs small m e =
     let f : KindRules = b.0 in
     let c = unless_ok (offence f (record_at f.kind bs) (u16_at bs 10) (u32_at bs 60)) (record_at f.kind bs) m b.2 in
     ap bytes_of (sym c.1)
-    ∙ put_back bs small f.kind n (find_code (get_or bs 0 0) kinds f b.1)
+    ∙ put_back bs small f.kind n (find_code (get_or bs 0 0) f b.1)
     (none_gap f (record_at f.kind bs) (u16_at bs 10) (u32_at bs 60) c.0) (none_tail f (record_at f.kind bs) (u16_at bs 10) (u32_at bs 60) c.0)
     ∙ sym (fill_by_all (λ i. get_or bs i 0) bs 64 0 n (λ k h. refl))
 
@@ -132,7 +144,7 @@ decoded_sound bs m e =
     let f : KindRules = b.0 in
     let R : Record = record_at f.kind bs in
     let c = unless_ok (offence f R (u16_at bs 10) (u32_at bs 60)) R m b.2 in
-    let code : code_of f.kind ≡ get_or bs 0 0 = find_code (get_or bs 0 0) kinds f b.1 in
+    let code : code_of f.kind ≡ get_or bs 0 0 = find_code (get_or bs 0 0) f b.1 in
     ap breaks (sym c.1) ∙ ap (λ o. by_kind o R) (ap rules_of code ∙ sym b.1)
     ∙ ap (λ g. offence f R g 0) (sym (none_gap f R (u16_at bs 10) (u32_at bs 60) c.0))
     ∙ ap (λ t. offence f R (u16_at bs 10) t) (sym (none_tail f R (u16_at bs 10) (u32_at bs 60) c.0))

@@ -1,7 +1,6 @@
 -- Clocks: what they cover, which reaches which, and what raising an entry does.
-use Rattle.std.specs.Prelude.{ℕ, max, Bool, leb, nat_le, slice_index, slice_set}
-use Rattle.std.specs.List.{range_with_len}
-use Rattle.record.specs.Every.{every}
+use Rattle.std.specs.Prelude.{ℕ, max, Bool, nat_le, slice_index, slice_set}
+use Rattle.std.specs.List.{range_with_len, list_all}
 use Rattle.record.specs.declared.clock.Clock.{Clock}
 
 -- the number for board j; 0 for a board that no group has
@@ -14,7 +13,7 @@ covered c j s = nat_le s (entry_of c j)
 
 -- a clock reaches another if each of its eight entries is at least the other's
 abbrev pub reached : Clock → Clock → Bool
-reached c d = every (λ j. leb (entry_of d j) (entry_of c j)) (range_with_len 0 8)
+reached c d = list_all (λ j. nat_le (entry_of d j) (entry_of c j)) (range_with_len 0 8)
 
 -- the entry for board j is raised to s, and no other is changed
 abbrev pub raised : Clock → ℕ → ℕ → Clock

@@ -3,6 +3,7 @@ use Rattle.std.specs.Prelude.{ℕ}
 use Rattle.record.specs.declared.fault.Denial.{Denial}
 use Rattle.record.specs.declared.fault.Denial.TheVariants.{Build, ShortBuffer, BadRecord, NoTransaction, WrongState, Unlisted, KindDiffers, FourUpdates, NoPlace, SerialsSpent, LogFull, NoLockPlaces, Early, NotHere}
 use Rattle.record.specs.declared.fault.Fault.{Fault}
+use Rattle.record.specs.declared.fault.Fault.TheVariants.{Board, Record as Broken, Keeper}
 
 abbrev pub number_of : Denial → ℕ
 number_of Build = 1
@@ -20,17 +21,34 @@ number_of NoLockPlaces = 12
 number_of Early = 13
 number_of NotHere = 14
 
-abbrev fault : ℕ → Denial → ℕ → Fault
-fault layer why place = record { layer = layer; number = number_of why; place = place }
+-- ## The three faults
 
 -- the board refuses
 abbrev pub board_fault : Denial → Fault
-board_fault why = fault 2 why 0
+board_fault why = Board why
 
 -- a record breaks a rule at this byte; 64 is a wrong length
 abbrev pub misplaced : ℕ → Fault
-misplaced place = fault 3 BadRecord place
+misplaced place = Broken place
 
 -- the keeper of the log refuses
 abbrev pub keeper_fault : Denial → Fault
-keeper_fault why = fault 4 why 0
+keeper_fault why = Keeper why
+
+-- ## What a panel shows of them
+
+abbrev pub layer_of : Fault → ℕ
+layer_of (Board why) = 2
+layer_of (Broken place) = 3
+layer_of (Keeper why) = 4
+
+abbrev pub number_in : Fault → ℕ
+number_in (Board why) = number_of why
+number_in (Broken place) = number_of BadRecord
+number_in (Keeper why) = number_of why
+
+-- 0 but where a record breaks a rule
+abbrev pub place_in : Fault → ℕ
+place_in (Board why) = 0
+place_in (Broken place) = place
+place_in (Keeper why) = 0

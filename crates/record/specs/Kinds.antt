@@ -1,5 +1,6 @@
 -- The seven kinds of records, with the bounds of byte 3, serial and number.
-use Rattle.std.specs.Prelude.{ℕ, Bool, true, false, cond, ◌&&◌, List, [], ◌∷◌, Some, None, Option, ◌==◌, nat_le}
+use Rattle.std.specs.Prelude.{ℕ, Bool, true, false, ◌&&◌, List, [], ◌∷◌, Option, ◌==◌, nat_le}
+use Rattle.std.specs.List.{find}
 use Rattle.record.specs.declared.kind.RecordKind.{RecordKind}
 use Rattle.record.specs.declared.kind.RecordKind.TheVariants.{Prepare, Vote, Abort, Propagate, Ack, Durable, Row}
 use Rattle.record.specs.declared.kind.Bounds.{Bounds}
@@ -52,10 +53,6 @@ kinds =
     ∷ row Row updates serials numbers true
     ∷ []
 
-abbrev pub find : ℕ → List KindRules → Option KindRules
-find code [] = None
-find code (k ∷ ks) = cond (code_of k.kind == code) (Some k) (find code ks)
-
 -- the rules of the kind with this code
 abbrev pub rules_of : ℕ → Option KindRules
-rules_of code = find code kinds
+rules_of code = find (λ k. code_of k.kind == code) kinds

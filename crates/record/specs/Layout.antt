@@ -20,7 +20,7 @@ abbrev pub update_at : List ℕ → ℕ → Update
 update_at bs i = record { object = u16_at bs i; element = u16_at bs (i + 2); operand = i32_at bs (i + 4) }
 
 abbrev pub updates_at : List ℕ → ℕ → List Update
-updates_at bs i = update_at bs i ∷ update_at bs (i + 8) ∷ update_at bs (i + 16) ∷ update_at bs (i + 24) ∷ []
+updates_at bs i = map (λ j. update_at bs (i + 8 * j)) (range_with_len 0 4)
 
 -- the record whose fields stand in 64 bytes; byte 0 is its kind, and bytes 10, 11 and 60 to 63 hold nothing of it
 abbrev pub record_at : RecordKind → List ℕ → Record

@@ -1,6 +1,5 @@
 pub mod Faults
 pub mod Verdicts
-pub mod Every
 pub mod Clocks
 pub mod Kinds
 pub mod Rows

@@ -3,6 +3,7 @@ use Rattle.std.specs.Prelude.{ℕ, min, List, take, replicate, pos}
 use Rattle.record.specs.declared.kind.RecordKind.{RecordKind}
 use Rattle.record.specs.declared.clock.Clock.{Clock}
 use Rattle.record.specs.declared.row.Update.{Update}
+use Rattle.record.specs.declared.transaction.TransactionId.{TransactionId}
 use Rattle.record.specs.declared.row.Row.{Row}
 use Rattle.record.specs.declared.message.Record.{Record}
 
@@ -46,3 +47,7 @@ row_of m =
       count = m.detail;
       updates = m.updates;
     }
+
+-- the transaction that was committed as a row
+abbrev pub id_of : Row → TransactionId
+id_of r = record { home = r.home; serial = r.serial }

@@ -16,10 +16,7 @@ impl Clock {
     pub fn entry(&self, board: u8) -> u16
         ensures { result ≡ entry_of self.now board }
     {
-        match self.entries.get(board as usize) {
-            Some(number) => *number,
-            None => 0,
-        }
+        self.entries.get(board as usize).copied().unwrap_or(0)
     }
 
     /// Whether the row with this number of this board is among those that the clock counts.
@@ -33,7 +30,10 @@ impl Clock {
     pub fn reaches(&self, other: &Clock) -> bool
         ensures { result ≡ reached self.now other.now }
     {
-        at_least(self, other)
+        self.entries
+            .iter()
+            .zip(&other.entries)
+            .all(|(ours, theirs)| theirs <= ours)
     }
 
     /// Raises the entry of this board to the number; it never falls.
@@ -41,21 +41,9 @@ impl Clock {
         ensures { self.new ≡ raised self.old board number }
     {
         let board = board as usize;
-        let entries: &mut [u16] = &mut self.entries;
-        if board < entries.len() {
-            entries[board] = entries[board].max(number);
+        // by index: a proof knows no element once what `get_mut` lends is back
+        if board < self.entries.len() {
+            self.entries[board] = self.entries[board].max(number);
         }
     }
-}
-
-/// Whether each of `these` is at least its like among `those`.
-fn at_least(these: &Clock, those: &Clock) -> bool
-    ensures { result ≡ reached these.now those.now }
-{
-    for (board, entry) in these.entries.iter().enumerate() {
-        if *entry < those.entries[board] {
-            return false;
-        }
-    }
-    true
 }

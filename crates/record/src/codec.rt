@@ -17,7 +17,7 @@ impl Record {
         ensures rebuilt { IfOk result (λ m. encoded m ≡ Ok bytes.now) }
     {
         if bytes.len() != 64 {
-            return Err(Fault::in_record(64));
+            return Err(Fault::Record(64));
         }
         Record::take_apart(bytes)
     }
@@ -29,11 +29,9 @@ impl Record {
         ensures rebuilt { IfOk result (λ m. encoded m ≡ Ok bytes.now) }
     {
         let [kind, sender, receiver, detail, rest @ ..] = bytes else {
-            return Err(Fault::in_record(64));
+            unreachable!()
         };
-        let Some(rules) = KindRules::of(*kind) else {
-            return Err(Fault::in_record(0));
-        };
+        let rules = KindRules::of(*kind).ok_or(Fault::Record(0))?;
         let record = Record {
             kind: rules.kind,
             sender: *sender,
@@ -44,23 +42,15 @@ impl Record {
             start: Clock::read(rest, 8),
             updates: read_updates(rest, 24),
         };
-        match rules.offence(&record, u16_at(rest, 6), u32_at(rest, 56)) {
-            Some(place) => Err(Fault::in_record(place)),
-            None => Ok(record),
-        }
+        rules.check(&record, u16_at(rest, 6), u32_at(rest, 56))?;
+        Ok(record)
     }
 
     /// Denies a record that breaks a rule, with the place at which its bytes would.
     pub fn check(&self) -> Result<(), Fault>
         ensures { result ≡ checked self.now }
     {
-        let Some(rules) = KindRules::of(self.kind.code()) else {
-            return Err(Fault::in_record(0));
-        };
-        match rules.offence(self, 0, 0) {
-            Some(place) => Err(Fault::in_record(place)),
-            None => Ok(()),
-        }
+        self.kind.rules().check(self, 0, 0)
     }
 
     /// Lays the record into the first 64 bytes of `out`.
@@ -72,7 +62,7 @@ impl Record {
         put(
             out,
             0,
-            &[self.kind.code(), self.sender, self.receiver, self.detail],
+            &[self.kind as u8, self.sender, self.receiver, self.detail],
         );
         put(out, 4, &self.serial.to_le_bytes());
         put(out, 8, &self.number.to_le_bytes());

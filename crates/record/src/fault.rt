@@ -1,6 +1,8 @@
 //! Refusals. Every call that refuses answers one fault, and then nothing has changed.
 ghost use Rattle.std.specs.Prelude.{◌≡◌};
-ghost use Rattle.record.specs.Faults.{board_fault, keeper_fault, misplaced};
+ghost use Rattle.record.specs.Faults.{layer_of, number_in, place_in};
+
+use std::fmt;
 
 /// Why a call is refused: the whole table. The numbers are those that a panel shows.
 #[derive(Clone, Copy, PartialEq, Eq, Debug)]
@@ -35,46 +37,52 @@ pub enum Denial {
     NotHere = 14,
 }
 
-/// A refusal: the layer that found it (2 the board, 3 a record, 4 the keeper), the number of the denial,
-/// and a place, which is 0 but where a record breaks its rules.
+/// A refusal: who found it, and why. A panel shows its layer, number and place.
 #[derive(Clone, Copy, PartialEq, Eq, Debug)]
-pub struct Fault {
-    pub layer: u8,
-    pub number: u8,
-    pub place: u32,
+pub enum Fault {
+    /// The board refuses.
+    Board(Denial),
+    /// A record breaks a rule at this byte; 64 is a wrong length.
+    Record(u32),
+    /// The keeper of the log refuses.
+    Keeper(Denial),
 }
 
 impl Fault {
-    /// The board refuses.
-    pub fn board(why: Denial) -> Fault
-        ensures { result ≡ board_fault why }
+    /// Who found it: 2 is the board, 3 a record, 4 the keeper.
+    pub fn layer(&self) -> u8
+        ensures { result ≡ layer_of self.now }
     {
-        Fault {
-            layer: 2,
-            number: why as u8,
-            place: 0,
+        match self {
+            Fault::Board(_) => 2,
+            Fault::Record(_) => 3,
+            Fault::Keeper(_) => 4,
         }
     }
 
-    /// A record breaks a rule at this byte; 64 is a wrong length.
-    pub fn in_record(place: u32) -> Fault
-        ensures { result ≡ misplaced place }
+    /// The number of the denial.
+    pub fn number(&self) -> u8
+        ensures { result ≡ number_in self.now }
     {
-        Fault {
-            layer: 3,
-            number: Denial::BadRecord as u8,
-            place,
+        match self {
+            Fault::Board(why) | Fault::Keeper(why) => *why as u8,
+            Fault::Record(_) => Denial::BadRecord as u8,
         }
     }
 
-    /// The keeper of the log refuses.
-    pub fn keeper(why: Denial) -> Fault
-        ensures { result ≡ keeper_fault why }
+    /// The byte at which a record breaks a rule; 0 for any other fault.
+    pub fn place(&self) -> u32
+        ensures { result ≡ place_in self.now }
     {
-        Fault {
-            layer: 4,
-            number: why as u8,
-            place: 0,
+        match self {
+            Fault::Record(place) => *place,
+            Fault::Board(_) | Fault::Keeper(_) => 0,
         }
+    }
+}
+
+impl fmt::Display for Fault {
+    fn fmt<W: fmt::Write>(&self, f: &mut fmt::Formatter<W>) -> fmt::Result {
+        write!(f, "{} {} {}", self.layer(), self.number(), self.place())
     }
 }

@@ -1,5 +1,5 @@
 //! The kinds of bus records: one table, which the encoder and the decoder both read.
-ghost use Rattle.std.specs.Prelude.{◌≡◌};
+ghost use Rattle.std.specs.Prelude.{◌≡◌, Some};
 ghost use Rattle.record.specs.Kinds.{code_of, within, rules_of};
 
 /// What a record is. The numbers stand in its byte 0.
@@ -19,14 +19,6 @@ pub enum RecordKind {
     Durable = 6,
     /// A row as a log keeps it; it is never sent.
     Row = 8,
-}
-
-impl RecordKind {
-    pub(crate) fn code(self) -> u8
-        ensures { result ≡ code_of self }
-    {
-        self as u8
-    }
 }
 
 /// The numbers from `least` to `most`, both among them.
@@ -124,16 +116,29 @@ pub const KINDS: [KindRules; 7] = [
     },
 ];
 
+impl RecordKind {
+    /// The rules of the kind.
+    pub(crate) fn rules(self) -> KindRules
+        ensures { Some result ≡ rules_of (code_of «self») }
+    {
+        let [prepare, vote, abort, propagate, ack, durable, row] = KINDS;
+        match self {
+            RecordKind::Prepare => prepare,
+            RecordKind::Vote => vote,
+            RecordKind::Abort => abort,
+            RecordKind::Propagate => propagate,
+            RecordKind::Ack => ack,
+            RecordKind::Durable => durable,
+            RecordKind::Row => row,
+        }
+    }
+}
+
 impl KindRules {
     /// The rules of the kind with this number in byte 0.
     pub(crate) fn of(code: u8) -> Option<KindRules>
         ensures { result ≡ rules_of code }
     {
-        for rules in &KINDS {
-            if rules.kind.code() == code {
-                return Some(*rules);
-            }
-        }
-        None
+        KINDS.iter().find(|rules| rules.kind as u8 == code).copied()
     }
 }

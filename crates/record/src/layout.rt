@@ -7,6 +7,7 @@ ghost use Rattle.record.specs.Codec.{Sized};
 use crate::bytes::{i32_at, put, u16_at};
 use crate::clock::Clock;
 use crate::row::Update;
+use std::array;
 
 impl Clock {
     /// The clock whose entries stand in `bytes` from `at` on.
@@ -14,11 +15,9 @@ impl Clock {
         requires { at + 16 ≤ length bytes.now }
         ensures { result ≡ clock_at bytes.now at }
     {
-        let mut entries = [0; 8];
-        for j in 0..8 {
-            entries[j] = u16_at(bytes, at + 2 * j);
+        Clock {
+            entries: array::from_fn(|j| u16_at(bytes, at + 2 * j)),
         }
-        Clock { entries }
     }
 
     /// Lays the entries into `out` from `place` on.
@@ -61,12 +60,7 @@ pub(crate) fn read_updates(bytes: &[u8], at: usize) -> [Update; 4]
     requires { at + 32 ≤ length bytes.now }
     ensures { result ≡ updates_at bytes.now at }
 {
-    [
-        Update::read(bytes, at),
-        Update::read(bytes, at + 8),
-        Update::read(bytes, at + 16),
-        Update::read(bytes, at + 24),
-    ]
+    array::from_fn(|i| Update::read(bytes, at + 8 * i))
 }
 
 pub(crate) fn lay_updates(updates: &[Update; 4], out: &mut [u8], place: usize)

@@ -10,9 +10,12 @@ mod layout;
 mod message;
 mod row;
 mod rules;
+mod text;
+mod transaction;
 
 pub use clock::Clock;
 pub use fault::{Denial, Fault};
 pub use kind::{Bounds, KINDS, KindRules, RecordKind};
 pub use message::{NOBODY, Record};
 pub use row::{Row, Update};
+pub use transaction::TransactionId;

@@ -3,7 +3,7 @@ use crate::clock::Clock;
 use crate::kind::RecordKind;
 use crate::row::Update;
 
-/// A record, field by field. `detail` is byte 3: how many updates are used, or a vote, 1 for yes.
+/// A record, field by field. `detail` is byte 3, a number as on the bus: how many updates are used, or a vote, 1 for yes.
 #[derive(Clone, Copy, PartialEq, Eq, Debug)]
 pub struct Record {
     pub kind: RecordKind,

@@ -1,6 +1,7 @@
 //! Rows: committed transactions, as logs hold them.
 ghost use Rattle.std.specs.Prelude.{◌≡◌};
 ghost use Rattle.record.specs.Rows.{record_of, row_of, updates_of};
+ghost use Rattle.record.specs.Updates.{is_covered};
 
 use crate::clock::Clock;
 use crate::kind::RecordKind;
@@ -24,7 +25,7 @@ impl Update {
 }
 
 /// A committed transaction: where it was started and under which serial, its number among the rows of its home,
-/// what its home had committed when it started, and its updates, of which `count` are used.
+/// what its home had committed when it started, and its updates, of which `count` are used. Its memory is fixed, and it is copied, which the kit's `ArrayVec` is not.
 #[derive(Clone, Copy, PartialEq, Eq, Debug)]
 pub struct Row {
     pub home: u8,
@@ -51,16 +52,14 @@ impl Row {
         ensures { result.now ≡ updates_of self.now }
     {
         let count = (self.count as usize).min(4);
-        &self.updates[0..count]
+        &self.updates[..count]
     }
 
-    /// The record of this kind that carries the row to the receiver.
+    /// The record of this kind that carries the row to the receiver: a method, since it takes these two.
     pub fn to_record(&self, kind: RecordKind, receiver: u8) -> Record
         ensures answer { result ≡ record_of kind receiver self.now }
         ensures back { row_of result ≡ self.now }
     {
-        let start = self.start;
-        let updates = self.updates;
         Record {
             kind,
             sender: self.home,
@@ -68,26 +67,36 @@ impl Row {
             detail: self.count,
             serial: self.serial,
             number: self.number,
-            start,
-            updates,
+            start: self.start,
+            updates: self.updates,
         }
     }
 }
 
-impl Record {
-    /// The row that the record carries.
-    pub fn to_row(&self) -> Row
-        ensures answer { result ≡ row_of self.now }
-        ensures back { record_of self.now.kind self.now.receiver result ≡ self.now }
+impl Clock {
+    /// Whether the row is among those that the clock counts.
+    pub fn covers_row(&self, row: &Row) -> bool
+        ensures { result ≡ is_covered self.now row.now }
     {
-        let start = self.start;
-        let updates = self.updates;
+        self.covers(row.home, row.number)
+    }
+}
+
+/// The row that a record carries.
+impl From<Record> for Row {
+    ghost from_gives = { λ m r. r ≡ row_of m };
+
+    fn from(record: Record) -> Row
+        ensures answer { result ≡ row_of «record» }
+        ensures back { record_of «record».kind «record».receiver result ≡ «record» }
+    {
+        let Record { start, updates, .. } = record;
         Row {
-            home: self.sender,
-            serial: self.serial,
-            number: self.number,
+            home: record.sender,
+            serial: record.serial,
+            number: record.number,
             start,
-            count: self.detail,
+            count: record.detail,
             updates,
         }
     }

@@ -1,8 +1,10 @@
 //! Which field of a record breaks a rule first.
 ghost use Rattle.std.specs.Prelude.{◌≡◌, ◌<◌};
 ghost use Rattle.record.specs.Rules.{first, receives, head_rules, clock_rules, zero_rules, update_rules, offence};
+ghost use Rattle.record.specs.Codec.{unless};
 
 use crate::clock::Clock;
+use crate::fault::Fault;
 use crate::kind::{KindRules, RecordKind};
 use crate::message::{NOBODY, Record};
 use crate::row::Update;
@@ -16,100 +18,75 @@ fn may_receive(kind: RecordKind, sender: u8, receiver: u8) -> bool
     }
 }
 
+/// Denies the first place that is not in order, among places with whether what stands there is.
+fn check_places(rules: &[(u32, bool)]) -> Result<(), Fault>
+    ensures { result ≡ unless (first rules.now) tt }
+{
+    let broken = rules.iter().find(|rule| !rule.1).copied();
+    broken.map_or(Ok(()), |rule| Err(Fault::Record(rule.0)))
+}
+
 impl Clock {
-    /// The place of the first entry above `top`.
-    fn offence(&self, top: u16) -> Option<u32>
-        ensures { result ≡ first (clock_rules top 12 self.now.entries) }
+    /// Denies an entry above `top`.
+    fn check(&self, top: u16) -> Result<(), Fault>
+        ensures { result ≡ unless (first (clock_rules top 12 self.now.entries)) tt }
     {
-        let mut place = 12;
-        for entry in &self.entries {
-            if *entry > top {
-                return Some(place);
-            }
-            place += 2;
-        }
-        None
+        let above = self.entries.iter().position(|entry| *entry > top);
+        above.map_or(Ok(()), |board| Err(Fault::Record(12 + 2 * board as u32)))
     }
 }
 
 impl Update {
-    /// The first part that is not zero, of an update that is not used.
-    fn offence(&self, place: u32) -> Option<u32>
+    /// Denies an update that is not used if a part of it is not zero.
+    fn check(&self, place: u32) -> Result<(), Fault>
         requires { place < 64 }
-        ensures { result ≡ first (zero_rules place self.now) }
+        ensures { result ≡ unless (first (zero_rules place self.now)) tt }
     {
-        if self.object != 0 {
-            return Some(place);
-        }
-        if self.element != 0 {
-            return Some(place + 2);
-        }
-        if self.operand != 0 {
-            return Some(place + 4);
-        }
-        None
+        check_places(&[
+            (place, self.object == 0),
+            (place + 2, self.element == 0),
+            (place + 4, self.operand == 0),
+        ])
     }
 }
 
-fn updates_offence(used: u8, updates: &[Update; 4]) -> Option<u32>
-    ensures { result ≡ first (update_rules used 28 updates.now) }
+#[tactic(auto, using(crate::proofs::Offences::update_used, crate::proofs::Offences::update_unused))]
+fn check_updates(used: u8, updates: &[Update; 4]) -> Result<(), Fault>
+    ensures { result ≡ unless (first (update_rules used 28 updates.now)) tt }
 {
-    let mut place = 28;
-    let mut left = used;
-    for update in updates {
-        if left > 0 {
-            left -= 1;
-        } else if let Some(found) = update.offence(place) {
-            return Some(found);
+    for (i, update) in updates.iter().enumerate() {
+        if i >= used as usize {
+            update.check(28 + 8 * i as u32)?;
         }
-        place += 8;
     }
-    None
+    Ok(())
 }
 
 impl KindRules {
-    fn head_offence(&self, record: &Record, gap: u16) -> Option<u32>
-        ensures { result ≡ first (head_rules self.now «record».now gap) }
+    fn check_head(&self, record: &Record, gap: u16) -> Result<(), Fault>
+        ensures { result ≡ unless (first (head_rules self.now «record».now gap)) tt }
     {
-        if record.sender >= 8 {
-            return Some(1);
-        }
-        if !may_receive(self.kind, record.sender, record.receiver) {
-            return Some(2);
-        }
-        if !self.detail.admit(record.detail as u32) {
-            return Some(3);
-        }
-        if !self.serial.admit(record.serial) {
-            return Some(4);
-        }
-        if !self.number.admit(record.number as u32) {
-            return Some(8);
-        }
-        if gap != 0 {
-            return Some(10);
-        }
-        None
+        check_places(&[
+            (1, record.sender < 8),
+            (2, may_receive(self.kind, record.sender, record.receiver)),
+            (3, self.detail.admit(record.detail as u32)),
+            (4, self.serial.admit(record.serial)),
+            (8, self.number.admit(record.number as u32)),
+            (10, gap == 0),
+        ])
     }
 
-    /// The place of the first field that breaks a rule. `gap` is what stands in bytes 10 and 11, and `tail` in the last four.
-    pub(crate) fn offence(&self, record: &Record, gap: u16, tail: u32) -> Option<u32>
-        ensures { result ≡ offence self.now «record».now gap tail }
+    /// Denies a record that breaks a rule, with the place of the first field that does.
+    /// `gap` is what stands in bytes 10 and 11, and `tail` in the last four.
+    #[tactic(auto, using(crate::proofs::Offences::offence_is))]
+    pub(crate) fn check(&self, record: &Record, gap: u16, tail: u32) -> Result<(), Fault>
+        ensures { result ≡ unless (offence self.now «record».now gap tail) tt }
     {
-        if let Some(place) = self.head_offence(record, gap) {
-            return Some(place);
-        }
         let top = if self.carries { 4096 } else { 0 };
-        if let Some(place) = record.start.offence(top) {
-            return Some(place);
-        }
         let used = if self.carries { record.detail } else { 0 };
-        if let Some(place) = updates_offence(used, &record.updates) {
-            return Some(place);
-        }
-        if tail != 0 {
-            return Some(60);
-        }
-        None
+        self.check_head(record, gap)?;
+        record.start.check(top)?;
+        check_updates(used, &record.updates)?;
+        check_places(&[(60, tail == 0)])
     }
 }

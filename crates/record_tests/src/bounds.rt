@@ -5,21 +5,21 @@ use std::process::Abort;
 use std::test::Fail;
 
 fn with_detail(record: &Record, detail: u32) -> Record {
-    let mut other = *record;
-    other.detail = (detail & 0xff) as u8;
-    other
+    Record {
+        detail: (detail & 0xff) as u8,
+        ..*record
+    }
 }
 
 fn with_serial(record: &Record, serial: u32) -> Record {
-    let mut other = *record;
-    other.serial = serial;
-    other
+    Record { serial, ..*record }
 }
 
 fn with_number(record: &Record, number: u32) -> Record {
-    let mut other = *record;
-    other.number = (number & 0xffff) as u16;
-    other
+    Record {
+        number: (number & 0xffff) as u16,
+        ..*record
+    }
 }
 
 /// The record is taken with this number in a field, or denied at the field's place.
@@ -34,11 +34,7 @@ fn tried(rt: &impl Abort, record: &Record, within: bool, place: u32) -> Result<(
 /// Both ends of a range, and the numbers next to it that the field can hold.
 fn ends_of(bounds: Bounds, highest: u32) -> [(u32, bool); 4] {
     let low = bounds.least.checked_sub(1);
-    let high = if bounds.most < highest {
-        Some(bounds.most.saturating_add(1))
-    } else {
-        None
-    };
+    let high = (bounds.most < highest).then_some(bounds.most.saturating_add(1));
     [
         (bounds.least, true),
         (bounds.most, true),
@@ -102,7 +98,7 @@ fn ends(rules: &KindRules) -> [u32; 7] {
 
 #[test]
 fn the_table_is_the_one_that_is_written_down(rt: HostRuntime) {
-    for (i, rules) in KINDS.iter().enumerate() {
-        assert!(rt; ends(rules) == TABLE[i]);
+    for (rules, written) in KINDS.iter().zip(&TABLE) {
+        assert!(rt; ends(rules) == *written);
     }
 }

@@ -33,30 +33,14 @@ fn an_entry_is_raised_and_never_falls(rt: HostRuntime) {
     assert!(rt; clock.entry(2) == 6 && clock.entry(0) == 3);
 }
 
+/// What a panel shows of a fault.
+fn shown(fault: Fault) -> (u8, u8, u32) {
+    (fault.layer(), fault.number(), fault.place())
+}
+
 #[test]
 fn faults_bear_the_numbers_of_the_table(rt: HostRuntime) {
-    assert!(rt;
-        Fault::board(Denial::NotHere)
-            == Fault {
-                layer: 2,
-                number: 14,
-                place: 0,
-            }
-    );
-    assert!(rt;
-        Fault::keeper(Denial::LogFull)
-            == Fault {
-                layer: 4,
-                number: 11,
-                place: 0,
-            }
-    );
-    assert!(rt;
-        Fault::in_record(64)
-            == Fault {
-                layer: 3,
-                number: 3,
-                place: 64,
-            }
-    );
+    assert!(rt; shown(Fault::Board(Denial::NotHere)) == (2, 14, 0));
+    assert!(rt; shown(Fault::Keeper(Denial::LogFull)) == (4, 11, 0));
+    assert!(rt; shown(Fault::Record(64)) == (3, 3, 64));
 }

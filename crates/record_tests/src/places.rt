@@ -1,5 +1,5 @@
 //! Every way in which bytes break a rule, with the place that is reported; and the bytes of one record, written out.
-use record::{Clock, Fault, NOBODY, Record, RecordKind, Update};
+use record::{Clock, Fault, NOBODY, Record, RecordKind, Row, Update};
 use std::process::Abort;
 
 /// ACK from board 1 to board 0 for number 5.
@@ -42,7 +42,7 @@ fn damaged(rt: &impl Abort, record: &Record, at: usize, value: u8, place: u32) {
     let mut bytes = record.to_bytes();
     assert!(rt; at < 64);
     bytes[at] = value;
-    assert_eq!(rt; Record::decode(&bytes).err(), Some(Fault::in_record(place)));
+    assert_eq!(rt; Record::decode(&bytes).err(), Some(Fault::Record(place)));
 }
 
 #[test]
@@ -82,12 +82,11 @@ fn heads(rt: HostRuntime) {
 #[test]
 fn a_row_is_for_nobody(rt: HostRuntime) {
     for receiver in 0..255u8 {
-        let row = PROPAGATE.to_row().to_record(RecordKind::Row, receiver);
-        assert_eq!(rt; row.check().err(), Some(Fault::in_record(2)));
+        let row = Row::from(PROPAGATE).to_record(RecordKind::Row, receiver);
+        assert_eq!(rt; row.check().err(), Some(Fault::Record(2)));
     }
     assert!(rt;
-        PROPAGATE
-            .to_row()
+        Row::from(PROPAGATE)
             .to_record(RecordKind::Row, NOBODY)
             .check()
             .is_ok()
@@ -141,8 +140,8 @@ fn lengths(rt: HostRuntime) {
     for length in 0..130usize {
         if length != 64 {
             assert_eq!(rt;
-                Record::decode(&bytes[0..length]).err(),
-                Some(Fault::in_record(64))
+                Record::decode(&bytes[..length]).err(),
+                Some(Fault::Record(64))
             );
         }
     }
@@ -162,7 +161,7 @@ fn the_first_of_two_offences_is_reported(rt: HostRuntime) {
             let first = at.min(later);
             assert_eq!(rt;
                 Record::decode(&bytes).err(),
-                Some(Fault::in_record(first as u32))
+                Some(Fault::Record(first as u32))
             );
         }
     }

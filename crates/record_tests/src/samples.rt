@@ -33,11 +33,11 @@ pub(crate) fn taken(rt: &impl Abort, record: &Record) -> Result<(), Fail> {
 
 /// The record breaks a rule at this place, as a value and as bytes.
 pub(crate) fn denied(rt: &impl Abort, record: &Record, place: u32) -> Result<(), Fail> {
-    assert_eq!(rt; record.check().err(), Some(Fault::in_record(place)));
-    assert_eq!(rt; record.encode().err(), Some(Fault::in_record(place)));
+    assert_eq!(rt; record.check().err(), Some(Fault::Record(place)));
+    assert_eq!(rt; record.encode().err(), Some(Fault::Record(place)));
     assert_eq!(rt;
         Record::decode(&record.to_bytes()).err(),
-        Some(Fault::in_record(place))
+        Some(Fault::Record(place))
     );
     Ok(())
 }

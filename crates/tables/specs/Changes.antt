@@ -1,5 +1,5 @@
 -- What changes in the tables: a place, the locks, a clock.
-use Rattle.std.specs.Prelude.{ℕ, ◌+◌, Bool, List, Result, nat_le}
+use Rattle.std.specs.Prelude.{ℕ, ◌+◌, Bool, List, Option, Result, nat_le}
 use Rattle.record.specs.declared.clock.Clock.{Clock}
 use Rattle.record.specs.declared.fault.Denial.TheVariants.{NoLockPlaces}
 use Rattle.record.specs.declared.fault.Fault.{Fault}
@@ -35,7 +35,8 @@ all_unlocked t r = every_ours t.config (is_unlocked t.locks) (updates_of r)
 abbrev pub lockable : Tables → Row → Result (Unit {0}) Fault
 lockable t r = need (nat_le (count_ours t.config (updates_of r)) (free_locks t.locks)) NoLockPlaces
 
-abbrev relocked : Tables → List Lock → Tables
+-- tables with other locks
+abbrev pub relocked : Tables → List (Option Lock) → Tables
 relocked t locks =
     record {
       config = t.config;

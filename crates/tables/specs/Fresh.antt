@@ -1,8 +1,7 @@
 -- What a board keeps that has just been built.
-use Rattle.std.specs.Prelude.{ℕ, replicate}
+use Rattle.std.specs.Prelude.{ℕ, None, replicate}
 use Rattle.record.specs.Rows.{zero_clock}
 use Rattle.config.specs.declared.config.Config.{Config}
-use Rattle.tables.specs.declared.lock.Lock.TheVariants.{Free as Unlocked}
 use Rattle.tables.specs.declared.place.Place.TheVariants.{Free}
 use Rattle.tables.specs.declared.tables.Tables.{Tables}
 
@@ -16,5 +15,5 @@ fresh c first =
       acknowledged = zero_clock;
       next = first;
       places = replicate 8 Free;
-      locks = replicate 64 Unlocked;
+      locks = replicate 64 None;
     }

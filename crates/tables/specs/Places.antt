@@ -18,7 +18,8 @@ has_serial serial (Waiting r polled agreed) = r.serial == serial
 has_serial serial (Committed s k) = s == serial
 has_serial serial (Aborted s) = s == serial
 
--- the index of the first element that passes a test, or the length where none does
+-- the index of the first element that passes a test, or the length where none does: the library's position_or_len, which adds its
+-- ones on the other side, and the proofs of the laws compute with them here
 abbrev pub first_at : {X : Type 0} → (X → Bool) → List X → ℕ
 first_at p [] = 0
 first_at p (x ∷ xs) = cond (p x) 0 (first_at p xs + 1)

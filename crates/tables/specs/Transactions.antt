@@ -6,6 +6,7 @@ use Rattle.record.specs.declared.fault.Denial.TheVariants.{NoTransaction, WrongS
 use Rattle.record.specs.declared.fault.Fault.{Fault}
 use Rattle.record.specs.declared.row.Row.{Row}
 use Rattle.record.specs.declared.row.Update.{Update}
+use Rattle.record.specs.declared.transaction.TransactionId.{TransactionId}
 use Rattle.record.specs.Verdicts.{and_then, denied, need}
 use Rattle.record.specs.Rows.{no_update}
 use Rattle.config.specs.Objects.{is_listed, kind_of}
@@ -81,6 +82,10 @@ open_in (Open r) = Ok r
 open_in (Waiting r polled agreed) = denied WrongState
 open_in (Committed s k) = denied WrongState
 open_in (Aborted s) = denied WrongState
+
+-- the board's own transaction with a serial
+abbrev pub own_id : Tables → ℕ → TransactionId
+own_id t serial = record { home = t.config.own; serial = serial }
 
 -- the place of a transaction of this board
 abbrev pub place_for : Tables → ℕ → ℕ → Place

@@ -2,7 +2,6 @@
 ghost use Rattle.std.specs.Prelude.{◌≡◌};
 ghost use Rattle.tables.specs.Fresh.{fresh};
 
-use crate::lock::Lock;
 use crate::place::Place;
 use crate::tables::Tables;
 use config::Config;
@@ -20,7 +19,7 @@ impl Tables {
             acknowledged: Clock::ZERO,
             next: first_serial as u64,
             places: [Place::Free; 8],
-            locks: [Lock::Free; 64],
+            locks: [None; 64],
         }
     }
 }

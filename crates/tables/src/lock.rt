@@ -1,199 +1,126 @@
-//! Places for locks.
-ghost use Rattle.std.specs.Prelude.{◌≡◌, not, ◌&&◌, ◌||◌};
-ghost use Rattle.tables.specs.Locks.{holds, is_owned, is_unlocked, is_locked_by, free_locks, with_lock, with_locks, without_owner};
-ghost use Rattle.tables.specs.Steps.{is_free_lock, first_free, locked_if_ours, unowned};
-ghost use Rattle.config.specs.Objects.{is_ours, every_ours};
+//! Locks on the objects that are preferred here.
+ghost use Rattle.std.specs.Prelude.{◌≡◌, cond, None};
+ghost use Rattle.std.specs.List.{position};
+ghost use Rattle.std.specs.Option.{is_none};
+ghost use Rattle.config.specs.Objects.{polled_for};
+ghost use Rattle.record.specs.Rows.{updates_of};
+ghost use Rattle.tables.specs.Changes.{all_locked, all_unlocked, lockable, relocked, locked, released};
+ghost use Rattle.tables.specs.Locks.{is_owned, is_unlocked, is_locked_by, free_locks, with_lock};
 
-use config::Config;
-use record::Update;
+use crate::tables::Tables;
+use record::{Denial, Fault, Row, TransactionId};
 
-/// A place for one lock: an object, and its owner's home and serial.
-#[derive(Clone, Copy)]
-pub enum Lock {
-    Free,
-    Held(u16, u8, u32),
+/// A lock: an object, and the transaction that owns it.
+#[derive(Clone, Copy, PartialEq, Eq, Debug)]
+pub struct Lock {
+    pub object: u16,
+    pub owner: TransactionId,
 }
 
-impl Lock {
-    fn is_free(&self) -> bool
-        ensures { result ≡ is_free_lock self.now }
+/// What is left of a lock place without this owner. A function, since in the loop the check does not split the place.
+fn without(place: Option<Lock>, owner: TransactionId) -> Option<Lock>
+    ensures { result ≡ cond (is_owned owner.home owner.serial place) None place }
+{
+    place.filter(|lock| lock.owner != owner)
+}
+
+impl Tables {
+    /// Whether no place holds the object.
+    fn is_unlocked(&self, object: u16) -> bool
+        ensures { result ≡ is_unlocked self.now.locks object }
     {
-        match self {
-            Lock::Free => true,
-            Lock::Held(_, _, _) => false,
-        }
+        self.locks
+            .iter()
+            .all(|place| place.is_none_or(|lock| lock.object != object))
     }
 
-    /// Whether the object is locked here.
-    fn holds(&self, object: u16) -> bool
-        ensures { result ≡ holds object self.now }
+    /// Whether a place holds the object for this owner.
+    fn is_locked_by(&self, owner: TransactionId, object: u16) -> bool
+        ensures { result ≡ is_locked_by self.now.locks owner.home owner.serial object }
     {
-        match self {
-            Lock::Free => false,
-            Lock::Held(held, _, _) => *held == object,
-        }
+        self.locks.contains(&Some(Lock { object, owner }))
     }
 
-    fn is_owned(&self, home: u8, serial: u32) -> bool
-        ensures { result ≡ is_owned home serial self.now }
+    /// How many lock places are free.
+    fn free_locks(&self) -> usize
+        ensures { result ≡ free_locks self.now.locks }
     {
-        match self {
-            Lock::Free => false,
-            Lock::Held(_, owner, started) => *owner == home && *started == serial,
-        }
+        self.locks.iter().filter(|place| place.is_none()).count()
     }
 
-    /// Whether the object is locked here for this owner.
-    fn holds_for(&self, home: u8, serial: u32, object: u16) -> bool
-        ensures { result ≡ (holds object self.now && is_owned home serial self.now) }
+    /// Whether our objects that the row writes are all locked by its own transaction.
+    pub fn all_locked(&self, row: &Row) -> bool
+        ensures { result ≡ all_locked self.now row.now }
     {
-        self.holds(object) && self.is_owned(home, serial)
+        row.updates().iter().all(|update| {
+            !self.config.is_ours(update.object) || self.is_locked_by(row.id(), update.object)
+        })
     }
 
-    /// What is left of the lock without this owner.
-    fn without(self, home: u8, serial: u32) -> Lock
-        ensures { result ≡ unowned home serial self }
+    /// Whether none of our objects that the row writes is locked.
+    pub fn all_unlocked(&self, row: &Row) -> bool
+        ensures { result ≡ all_unlocked self.now row.now }
     {
-        if self.is_owned(home, serial) {
-            Lock::Free
+        row.updates().iter().all(|update| !self.config.is_ours(update.object)
+            || self.is_unlocked(update.object))
+    }
+
+    /// Whether lock places enough are free for our objects that the row writes.
+    pub fn lockable(&self, row: &Row) -> Result<(), Fault>
+        ensures { result ≡ lockable self.now row.now }
+    {
+        if self.config.count_ours(row.updates()) <= self.free_locks() {
+            Ok(())
         } else {
-            self
+            Err(Fault::Board(Denial::NoLockPlaces))
         }
     }
-}
 
-/// Whether no place holds the object.
-fn is_unlocked(locks: &[Lock; 64], object: u16) -> bool
-    ensures { result ≡ is_unlocked locks.now object }
-{
-    for lock in locks {
-        if lock.holds(object) {
-            return false;
+    /// The index of the first free place.
+    fn free_lock(&self) -> Option<usize>
+        ensures { result ≡ position is_none self.now.locks }
+    {
+        self.locks.iter().position(|place| place.is_none())
+    }
+
+    /// The first free place takes the lock.
+    #[tactic(auto, using(crate::proofs::Firsts::first_at_is, crate::proofs::Firsts::set_missed, crate::proofs::LockSteps::with_lock_is))]
+    fn lock(&mut self, lock: Lock)
+        ensures { self.new ≡ relocked self.old (with_lock self.old.locks lock.object lock.owner.home lock.owner.serial) }
+    {
+        if let Some(i) = self.free_lock() {
+            self.locks[i] = Some(lock);
         }
     }
-    true
-}
 
-/// Whether a place holds the object for this owner.
-fn is_locked_by(locks: &[Lock; 64], home: u8, serial: u32, object: u16) -> bool
-    ensures { result ≡ is_locked_by locks.now home serial object }
-{
-    for lock in locks {
-        if lock.holds_for(home, serial, object) {
-            return true;
+    /// Locks our objects that the row writes for its transaction, but for those that are locked already.
+    pub fn lock_for(&mut self, row: &Row)
+        ensures { self.new ≡ locked self.old row.now }
+    {
+        for update in row.updates() {
+            if self.config.is_ours(update.object) && self.is_unlocked(update.object) {
+                self.lock(Lock {
+                    object: update.object,
+                    owner: row.id(),
+                });
+            }
         }
     }
-    false
-}
 
-/// How many places are free.
-pub(crate) fn free_locks(locks: &[Lock; 64]) -> usize
-    ensures { result ≡ free_locks locks.now }
-{
-    let mut count = 0;
-    for lock in locks {
-        if lock.is_free() {
-            count += 1;
+    /// Frees the locks of a transaction.
+    #[tactic(auto, using(crate::proofs::LockSteps::freed_more))]
+    pub fn release(&mut self, id: TransactionId)
+        ensures { self.new ≡ released self.old id.home id.serial }
+    {
+        for place in &mut self.locks {
+            *place = without(*place, id);
         }
     }
-    count
-}
 
-/// The first free place, or 64.
-fn first_free(locks: &[Lock; 64]) -> usize
-    ensures { result ≡ first_free locks.now }
-{
-    for (i, lock) in locks.iter().enumerate() {
-        if lock.is_free() {
-            return i;
-        }
+    /// The other boards that are preferred for a regular object that the row writes.
+    pub fn polled_for(&self, row: &Row) -> u8
+        ensures { result ≡ polled_for self.now.config (updates_of row.now) }
+    {
+        self.config.polled_for(row.updates())
     }
-    64
-}
-
-/// The first free place takes the lock.
-fn lock_one(locks: &mut [Lock; 64], object: u16, home: u8, serial: u32)
-    ensures { locks.new ≡ with_lock locks.old object home serial }
-{
-    let place = first_free(locks);
-    if place < 64 {
-        locks[place] = Lock::Held(object, home, serial);
-    }
-}
-
-/// Locks the object, if it is ours and not locked.
-fn lock_if_ours(config: &Config, locks: &mut [Lock; 64], home: u8, serial: u32, object: u16)
-    ensures { locks.new ≡ locked_if_ours config.now home serial locks.old object }
-{
-    if config.is_ours(object) && is_unlocked(locks, object) {
-        lock_one(locks, object, home, serial);
-    }
-}
-
-/// Locks each of our objects among those written, unless it is locked already.
-pub(crate) fn lock_all(
-    config: &Config,
-    locks: &mut [Lock; 64],
-    home: u8,
-    serial: u32,
-    updates: &[Update],
-)
-    ensures { locks.new ≡ with_locks config.now locks.old home serial updates.now }
-{
-    for update in updates {
-        lock_if_ours(config, locks, home, serial, update.object);
-    }
-}
-
-/// Frees the owner's locks.
-pub(crate) fn release(locks: &mut [Lock; 64], home: u8, serial: u32)
-    ensures { locks.new ≡ without_owner home serial locks.old }
-{
-    for lock in locks.iter_mut() {
-        *lock = lock.without(home, serial);
-    }
-}
-
-/// Whether the object is not ours, or locked by this owner.
-fn is_ready(config: &Config, locks: &[Lock; 64], home: u8, serial: u32, object: u16) -> bool
-    ensures { result ≡ (not (is_ours config.now object) || is_locked_by locks.now home serial object) }
-{
-    !config.is_ours(object) || is_locked_by(locks, home, serial, object)
-}
-
-/// Whether each of our objects among those written is locked by this owner.
-pub(crate) fn all_locked(
-    config: &Config,
-    locks: &[Lock; 64],
-    home: u8,
-    serial: u32,
-    updates: &[Update],
-) -> bool
-    ensures { result ≡ every_ours config.now (is_locked_by locks.now home serial) updates.now }
-{
-    for update in updates {
-        if !is_ready(config, locks, home, serial, update.object) {
-            return false;
-        }
-    }
-    true
-}
-
-/// Whether the object is not ours, or not locked.
-fn is_open(config: &Config, locks: &[Lock; 64], object: u16) -> bool
-    ensures { result ≡ (not (is_ours config.now object) || is_unlocked locks.now object) }
-{
-    !config.is_ours(object) || is_unlocked(locks, object)
-}
-
-/// Whether none of our objects among those written is locked.
-pub(crate) fn all_unlocked(config: &Config, locks: &[Lock; 64], updates: &[Update]) -> bool
-    ensures { result ≡ every_ours config.now (is_unlocked locks.now) updates.now }
-{
-    for update in updates {
-        if !is_open(config, locks, update.object) {
-            return false;
-        }
-    }
-    true
 }

@@ -1,11 +1,14 @@
 //! Places for transactions.
-ghost use Rattle.std.specs.Prelude.{◌≡◌, length};
-ghost use Rattle.tables.specs.Places.{is_free, has_serial, first_at, place_of, with_place};
+ghost use Rattle.std.specs.Prelude.{◌≡◌};
+ghost use Rattle.std.specs.List.{position};
+ghost use Rattle.tables.specs.Changes.{placed};
+ghost use Rattle.tables.specs.Places.{is_free, has_serial, place_of};
 
+use crate::tables::Tables;
 use record::Row;
 
 /// A place for one transaction of this board. An open or waiting transaction is kept as the row that it would become, with number 0.
-#[derive(Clone, Copy)]
+#[derive(Clone, Copy, PartialEq, Eq, Debug)]
 pub enum Place {
     Free,
     /// It may be changed.
@@ -22,13 +25,7 @@ impl Place {
     fn is_free(&self) -> bool
         ensures { result ≡ is_free self.now }
     {
-        match self {
-            Place::Free => true,
-            Place::Open(_) => false,
-            Place::Waiting(_, _, _) => false,
-            Place::Committed(_, _) => false,
-            Place::Aborted(_) => false,
-        }
+        matches!(self, Place::Free)
     }
 
     /// Whether the place is of the transaction with this serial.
@@ -37,54 +34,45 @@ impl Place {
     {
         match self {
             Place::Free => false,
-            Place::Open(row) => row.serial == serial,
-            Place::Waiting(row, _, _) => row.serial == serial,
-            Place::Committed(own, _) => *own == serial,
-            Place::Aborted(own) => *own == serial,
+            Place::Open(row) | Place::Waiting(row, _, _) => row.serial == serial,
+            Place::Committed(own, _) | Place::Aborted(own) => *own == serial,
         }
     }
 }
 
-/// The first free place, or 8.
-pub(crate) fn first_free(places: &[Place; 8]) -> usize
-    ensures is { result ≡ first_at is_free places.now }
-    ensures long { length places.now ≡ 8 }
-{
-    for (i, place) in places.iter().enumerate() {
-        if place.is_free() {
-            return i;
-        }
+impl Tables {
+    /// The index of the first free place.
+    pub(crate) fn free_place(&self) -> Option<usize>
+        ensures { result ≡ position is_free self.now.places }
+    {
+        self.places.iter().position(|place| place.is_free())
     }
-    8
-}
 
-/// The place of the serial, or 8.
-fn find(places: &[Place; 8], serial: u32) -> usize
-    ensures is { result ≡ first_at (has_serial serial) places.now }
-    ensures long { length places.now ≡ 8 }
-{
-    for (i, place) in places.iter().enumerate() {
-        if place.has_serial(serial) {
-            return i;
-        }
+    /// The index of the serial's place.
+    fn index_of(&self, serial: u32) -> Option<usize>
+        ensures { result ≡ position (has_serial serial) self.now.places }
+    {
+        self.places
+            .iter()
+            .position(|place| place.has_serial(serial))
     }
-    8
-}
 
-/// What stands in the place of the serial; free where it has none.
-pub(crate) fn place_of(places: &[Place; 8], serial: u32) -> Place
-    ensures { result ≡ place_of places.now serial }
-{
-    let i = find(places, serial);
-    if i < 8 { places[i] } else { Place::Free }
-}
+    /// What stands in the place of the serial; free where it has none.
+    #[tactic(auto, using(crate::proofs::Firsts::got_found, crate::proofs::Firsts::got_missed))]
+    pub fn place_of(&self, serial: u32) -> Place
+        ensures { result ≡ place_of self.now.places serial }
+    {
+        let index = self.index_of(serial);
+        index.map_or(Place::Free, |i| self.places[i])
+    }
 
-/// Puts another into the place of the serial.
-pub(crate) fn set_place(places: &mut [Place; 8], serial: u32, place: Place)
-    ensures { places.new ≡ with_place places.old serial place }
-{
-    let i = find(places, serial);
-    if i < 8 {
-        places[i] = place;
+    /// Puts another into the place of the serial; nothing changes where it has none.
+    #[tactic(auto, using(crate::proofs::Firsts::first_at_is, crate::proofs::Firsts::set_missed))]
+    pub fn set_place(&mut self, serial: u32, place: Place)
+        ensures { self.new ≡ placed self.old serial place }
+    {
+        if let Some(i) = self.index_of(serial) {
+            self.places[i] = place;
+        }
     }
 }

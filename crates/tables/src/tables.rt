@@ -17,5 +17,5 @@ pub struct Tables {
     /// The serial of the next transaction; above 4,294,967,295 all were given out.
     pub next: u64,
     pub places: [Place; 8],
-    pub locks: [Lock; 64],
+    pub locks: [Option<Lock>; 64],
 }

@@ -1,16 +1,13 @@
-use Rattle.std.proofs.Common.{sym, ◌∙◌}
-use Rattle.record.specs.Rows.{no_update}
-use Rattle.config.proofs.OurSteps.{ours_more, ours_all}
-use Rattle.config.proofs.Counts.{count_yes, count_no, count_end}
-use Rattle.config.proofs.config.Config.count_ours.Goals.{then-counts, else-counts}
+use Rattle.std.proofs.Common.{rules, ◌≡◌, ◌∙◌, length, filter}
+use Rattle.std.proofs.lemmas.Iterator.{YieldsList-from_slice}
+use Rattle.std.proofs.lemmas.Iterator.Consumers.{YieldsList-from_filter, YieldsList-from_enumerate, count_from_yields_List}
+use Rattle.std.proofs.lemmas.List.Sums.{length-filter}
+use Rattle.std.specs.List.{enumerate_from}
+use Rattle.config.proofs.OurSteps.{is_last, count_last}
 use Rattle.config.proofs.config.Config.count_ours.Goals as goal
 
-pub loop-i-preserved : goal.loop-i-preserved
-loop-i-preserved c =
-    elim c.if-counts.branch [
-      | then-counts w ↦ count_yes _ _ _ _ _ _ _ (sym c.counts.ensures ∙ w.if-counts.true) w.count-is (ours_more c.args.self.now c.args.updates.now c.loop-i.i no_update c.loop-i-test.true) c.loop-i.invariant
-      | else-counts w ↦ count_no _ _ _ _ _ _ _ (sym c.counts.ensures ∙ w.if-counts.false) w.count-is (ours_more c.args.self.now c.args.updates.now c.loop-i.i no_update c.loop-i-test.true) c.loop-i.invariant
-    ]
-
 pub returns : goal.returns
-returns c = count_end _ _ _ _ (ours_all c.args.self.now c.args.updates.now c.loop-i.i c.loop-i-test.false) c.loop-i.invariant
+returns c =
+    let e : c.count.result ≡ length (filter (is_last c.args.self.now c.args.updates.now) (enumerate_from 0 c.args.updates.now)) =
+    count_from_yields_List _ _ c.count.ensures.ran (YieldsList-from_filter _ (is_last c.args.self.now c.args.updates.now) (YieldsList-from_enumerate (YieldsList-from_slice c.args.updates.now cc) cc) c.filter.ensures.closure (λ x b q k. search rules)) in
+    e ∙ length-filter (is_last c.args.self.now c.args.updates.now) (enumerate_from 0 c.args.updates.now) ∙ count_last c.args.self.now c.args.updates.now

@@ -1,4 +1,4 @@
-use Rattle.std.proofs.Common.{◌≡◌, ℕ, List, [], ◌∷◌, ◌++◌, refl, ap, ◌∙◌, arith, rules}
+use Rattle.std.proofs.Common.{◌≡◌, ℕ, List, [], ◌∷◌, ◌++◌, refl, arith, rules}
 use Rattle.record.specs.declared.message.Record.{Record}
 use Rattle.record.specs.Kinds.{code_of}
 use Rattle.record.specs.Numbers.{u16_bytes, u32_bytes}
@@ -31,7 +31,7 @@ returns c =
     let m : Record = c.args.self.now in
     let out : List ℕ = c.args.out.now in
     let e4 : c.put.new.out ≡ written out 0 (to4 m) =
-    c.put.ensures ∙ ap (λ k. written out 0 (k ∷ m.sender ∷ m.receiver ∷ m.detail ∷ [])) c.code.ensures in
+    search rules in
     let e8 : c.put-2.new.out ≡ written out 0 (to8 m) =
     wrote_more out 0 (to4 m) (omega arith) _ e4 4 refl (u32_bytes m.serial) _ _ c.to_le_bytes.ensures c.put-2.ensures in
     let e10 : c.put-3.new.out ≡ written out 0 (to10 m) =

@@ -1,2 +1,0 @@
-mod Clearing
-mod Refusals

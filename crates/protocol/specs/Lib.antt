@@ -1,4 +1,0 @@
-pub mod Effects
-pub mod Commits
-pub mod Resends
-pub mod Delivers

@@ -1,8 +1,0 @@
-use Rattle.std.proofs.Common.{◌≡◌, not, ◌&&◌, drop}
-use Rattle.record.specs.Every.{every}
-use Rattle.tables.specs.Locks.{holds, is_owned}
-use Rattle.tables.proofs.lock.is_locked_by.Given as goal
-
--- what is left decides
-abbrev pub invariant-loop-lock : goal.invariant-loop-lock
-invariant-loop-lock l = every (λ x. not (holds l.object x && is_owned l.home l.serial x)) (drop l.lock-index l.locks) ≡ every (λ x. not (holds l.object x && is_owned l.home l.serial x)) l.locks
