@@ -21,6 +21,7 @@ impl<K: LogKeeper> Board<K> {
     }
 
     /// Takes a record from the bus, acts by its kind, and answers how many records were written.
+    #[tactic(auto, using(crate::proofs::Refusals::nothing_out, crate::proofs::Refusals::refused_second))]
     pub fn deliver(&mut self, bytes: &[u8], out: &mut [u8]) -> Result<usize, Fault>
         ensures answer { result ≡ (deliver (state_of self.old) bytes.now (length out.old)).answer }
         ensures board { state_of self.new ≡ leaves (state_of self.old) (deliver (state_of self.old) bytes.now (length out.old)) }

@@ -32,6 +32,7 @@ impl<K: LogKeeper> Board<K> {
     }
 
     /// Steps an element of an object of a merging kind.
+    #[tactic(auto, using(crate::proofs::Kept::updated_config))]
     pub fn merge<M: MergingKind>(
         &mut self,
         of: &OpenTransaction,

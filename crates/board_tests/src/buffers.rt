@@ -1,16 +1,16 @@
 //! Outgoing buffers of 447 bytes are refused, and 448 suffice.
-use crate::play::{OURS, begin, build, commit, member};
+use crate::play::{OURS, begin, build, commit, member, shown};
 use crate::wire::{FRESH, UNTOUCHED, has, plain, row};
 use board::{Board, OpenTransaction};
 use keeper::{LogKeeper, RowTable};
-use record::{Denial, Fault, RecordKind, Row};
+use record::{Fault, RecordKind, Row};
 use std::test::Fail;
 
 /// A byte less than a call asks for.
 const SHORT: [u8; 447] = [UNTOUCHED; 447];
 
-/// The denial of a short buffer.
-const TOO_SHORT: Fault = Fault::Board(Denial::ShortBuffer);
+/// What is shown of a short buffer.
+const TOO_SHORT: (u8, u8, u32) = (2, 2, 0);
 
 /// Commits into a buffer that suffices.
 fn commits<K: LogKeeper>(board: &mut Board<K>, of: OpenTransaction, out: &mut [u8]) -> bool {
@@ -24,14 +24,14 @@ fn commit_wants_448_bytes<K: LogKeeper>(
 ) -> Result<bool, Fault> {
     let of = begin(board, OURS, 7)?;
     match board.commit(of, &mut SHORT) {
-        Err((of, fault)) => Ok(commits(board, of, out) && fault == TOO_SHORT),
+        Err((of, fault)) => Ok(commits(board, of, out) && shown(fault) == TOO_SHORT),
         Ok(_) => Ok(false),
     }
 }
 
 fn resend_wants_448_bytes<K: LogKeeper>(board: &Board<K>, out: &mut [u8]) -> Result<bool, Fault> {
     let denied = board.resend(1, &mut SHORT).err();
-    Ok(board.resend(1, out)? == 1 && denied == Some(TOO_SHORT))
+    Ok(board.resend(1, out)? == 1 && denied.map(shown) == Some(TOO_SHORT))
 }
 
 fn deliver_wants_448_bytes<K: LogKeeper>(
@@ -40,7 +40,7 @@ fn deliver_wants_448_bytes<K: LogKeeper>(
 ) -> Result<bool, Fault> {
     let ack = plain(RecordKind::Ack, 1, 0, 0, 0, 1).to_bytes();
     let denied = board.deliver(&ack, &mut SHORT).err();
-    Ok(board.deliver(&ack, out)? == 1 && denied == Some(TOO_SHORT))
+    Ok(board.deliver(&ack, out)? == 1 && denied.map(shown) == Some(TOO_SHORT))
 }
 
 /// Commits a row, sends it again, and takes the ACK for it.

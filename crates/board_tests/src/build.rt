@@ -1,16 +1,17 @@
 //! What a board may be built with.
-use crate::play::part;
+use crate::play::{part, shown};
 use board::Board;
 use config::Config;
 use keeper::{LogKeeper, RecordArea, RowTable};
-use record::{Denial, Fault, Row};
+use record::Row;
 use std::test::Fail;
 
 /// Whether no board can be built on this keeper. It is asked before the numbers, good ones or bad.
 fn is_unfit<K: LogKeeper>(log: &K) -> bool {
-    let unfit = Some(Fault::Keeper(Denial::Build));
+    let unfit = Some((4, 1, 0));
     let config = part(0, 2);
-    Board::check(log, &config, 1).err() == unfit && Board::check(log, &config, 0).err() == unfit
+    Board::check(log, &config, 1).err().map(shown) == unfit
+        && Board::check(log, &config, 0).err().map(shown) == unfit
 }
 
 #[test]
@@ -32,14 +33,16 @@ fn a_log_with_a_row_is_denied(rt: HostRuntime) -> Result<(), Fail> {
     Ok(())
 }
 
-/// The fault of building a board from these numbers on a keeper that is fit.
-fn fault(config: &Config, first_serial: u32) -> Option<Fault> {
-    Board::check(&RowTable::over(&mut [Row::ZERO; 1]), config, first_serial).err()
+/// What is shown of building a board from these numbers on a keeper that is fit.
+fn fault(config: &Config, first_serial: u32) -> Option<(u8, u8, u32)> {
+    Board::check(&RowTable::over(&mut [Row::ZERO; 1]), config, first_serial)
+        .err()
+        .map(shown)
 }
 
 #[test]
 fn serials_begin_from_1(rt: HostRuntime) {
-    assert_eq!(rt; fault(&part(0, 2), 0), Some(Fault::Board(Denial::Build)));
+    assert_eq!(rt; fault(&part(0, 2), 0), Some((2, 1, 0)));
     assert_eq!(rt; fault(&part(0, 2), 1), None);
 }
 
@@ -59,10 +62,7 @@ fn a_group_has_2_to_8_boards_and_can_lose_some_and_not_all(rt: HostRuntime) {
         (3, 3, 1),
         (0, 0, 0),
     ] {
-        assert_eq!(rt;
-            fault(&group(own, boards, losses), 1),
-            Some(Fault::Board(Denial::Build))
-        );
+        assert_eq!(rt; fault(&group(own, boards, losses), 1), Some((2, 1, 0)));
     }
     for (own, boards, losses) in [(0, 2, 1), (1, 2, 1), (7, 8, 7), (0, 8, 1)] {
         assert_eq!(rt; fault(&group(own, boards, losses), 1), None);
@@ -79,10 +79,7 @@ fn listing(listed: u8, preferred: u8) -> Config {
 #[test]
 fn containers_are_1_to_64_and_preferred_in_the_group(rt: HostRuntime) {
     for (listed, preferred) in [(0, 0), (65, 0), (255, 0), (64, 2), (64, 255)] {
-        assert_eq!(rt;
-            fault(&listing(listed, preferred), 1),
-            Some(Fault::Board(Denial::Build))
-        );
+        assert_eq!(rt; fault(&listing(listed, preferred), 1), Some((2, 1, 0)));
     }
     for (listed, preferred) in [(1, 0), (63, 2), (64, 1)] {
         assert_eq!(rt; fault(&listing(listed, preferred), 1), None);

@@ -1,9 +1,9 @@
 //! Objects of the merging kinds.
-use crate::play::{COUNT, MARK, NOWHERE, OURS, OUT, build, commit, end, part};
+use crate::play::{COUNT, MARK, NOWHERE, OURS, OUT, build, commit, end, part, shown};
 use board::{Board, OpenTransaction};
 use keeper::{LogKeeper, RecordArea, RowTable};
 use merging::{Count, HighestMark};
-use record::{Denial, Fault, Row};
+use record::{Fault, Row};
 use std::test::Fail;
 
 /// Two steps of one count, one of a neighbour, and a mark.
@@ -31,11 +31,7 @@ fn steps<K: LogKeeper>(board: &mut Board<K>, of: &OpenTransaction) -> Result<boo
     four_updates(board, of)?;
     let after = values(board, of)?;
     let fifth = board.merge::<Count>(of, COUNT, 5, 1).err();
-    Ok(
-        before == (0, 0, None)
-            && after == (2, -1, Some(-3))
-            && fifth == Some(Fault::Board(Denial::FourUpdates)),
-    )
+    Ok(before == (0, 0, None) && after == (2, -1, Some(-3)) && fifth.map(shown) == Some((2, 8, 0)))
 }
 
 fn counts_and_marks<K: LogKeeper + Drop>(log: K) -> Result<bool, Fault> {
@@ -57,29 +53,29 @@ fn steps_are_seen_within_and_after(rt: HostRuntime) -> Result<(), Fail> {
 
 /// Whether objects of no listed container are denied with 6, whatever the kind.
 fn unlisted<K: LogKeeper>(board: &mut Board<K>, of: &OpenTransaction) -> bool {
-    let no = Some(Fault::Board(Denial::Unlisted));
-    board.merge::<Count>(of, NOWHERE, 0, 2).err() == no
-        && board.put(of, NOWHERE, 1).err() == no
-        && board.read(of, NOWHERE).err() == no
-        && board.look::<Count>(of, NOWHERE, 0).err() == no
+    let no = Some((2, 6, 0));
+    board.merge::<Count>(of, NOWHERE, 0, 2).err().map(shown) == no
+        && board.put(of, NOWHERE, 1).err().map(shown) == no
+        && board.read(of, NOWHERE).err().map(shown) == no
+        && board.look::<Count>(of, NOWHERE, 0).err().map(shown) == no
 }
 
 /// Whether changes of another kind are denied with 7, and operands that the kind does not admit.
 fn misfits<K: LogKeeper>(board: &mut Board<K>, of: &OpenTransaction) -> bool {
-    let no = Some(Fault::Board(Denial::KindDiffers));
-    board.merge::<Count>(of, MARK, 0, 1).err() == no
-        && board.merge::<HighestMark>(of, COUNT, 0, 1).err() == no
-        && board.merge::<Count>(of, OURS, 0, 1).err() == no
-        && board.merge::<Count>(of, COUNT, 0, 2).err() == no
-        && board.put(of, COUNT, 1).err() == no
+    let no = Some((2, 7, 0));
+    board.merge::<Count>(of, MARK, 0, 1).err().map(shown) == no
+        && board.merge::<HighestMark>(of, COUNT, 0, 1).err().map(shown) == no
+        && board.merge::<Count>(of, OURS, 0, 1).err().map(shown) == no
+        && board.merge::<Count>(of, COUNT, 0, 2).err().map(shown) == no
+        && board.put(of, COUNT, 1).err().map(shown) == no
 }
 
 /// Whether values of another kind are denied with 7.
 fn mislooks<K: LogKeeper>(board: &Board<K>, of: &OpenTransaction) -> bool {
-    let no = Some(Fault::Board(Denial::KindDiffers));
-    board.read(of, MARK).err() == no
-        && board.look::<Count>(of, MARK, 0).err() == no
-        && board.look::<HighestMark>(of, OURS, 0).err() == no
+    let no = Some((2, 7, 0));
+    board.read(of, MARK).err().map(shown) == no
+        && board.look::<Count>(of, MARK, 0).err().map(shown) == no
+        && board.look::<HighestMark>(of, OURS, 0).err().map(shown) == no
 }
 
 fn denies<K: LogKeeper + Drop>(log: K) -> Result<bool, Fault> {

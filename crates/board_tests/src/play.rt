@@ -50,6 +50,11 @@ pub(crate) fn build<K: LogKeeper + Drop>(log: K, config: &Config) -> Result<Boar
     Ok(Board::make(log, config, 1))
 }
 
+/// What a panel shows of a fault: its layer, its number and its place.
+pub(crate) fn shown(fault: Fault) -> (u8, u8, u32) {
+    (fault.layer(), fault.number(), fault.place())
+}
+
 /// Abandons a transaction. Were that denied, the play fails, and the transaction is left behind: no safe code can let it go.
 pub(crate) fn end<K: LogKeeper>(board: &mut Board<K>, of: OpenTransaction) -> bool {
     match board.abandon(of) {

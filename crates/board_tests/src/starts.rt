@@ -1,8 +1,8 @@
 //! Transactions that start and end on their home, and that other boards do not know.
-use crate::play::{OURS, OUT, THEIRS, begin, build, commit, end, part};
+use crate::play::{OURS, OUT, THEIRS, begin, build, commit, end, part, shown};
 use board::{Board, OpenTransaction};
 use keeper::{LogKeeper, RowTable};
-use record::{Denial, Fault, Row};
+use record::{Fault, Row};
 use std::test::Fail;
 
 fn can_start<K: LogKeeper>(board: &mut Board<K>) -> bool {
@@ -15,7 +15,7 @@ fn can_start<K: LogKeeper>(board: &mut Board<K>) -> bool {
 /// Starts so many transactions, each while those before it are open, and one more that is denied. When one is abandoned, another can start.
 fn fills<K: LogKeeper>(board: &mut Board<K>, places: u8) -> bool {
     match board.start() {
-        Err(fault) => places == 0 && fault == Fault::Board(Denial::NoPlace),
+        Err(fault) => places == 0 && shown(fault) == (2, 9, 0),
         Ok(of) => {
             let rest = places > 0 && fills(board, places - 1);
             end(board, of) && can_start(board) && rest
@@ -42,7 +42,7 @@ fn spends_the_last_serial<K: LogKeeper + Drop>(log: K) -> Result<bool, Fault> {
         return Ok(false);
     }
     match board.start() {
-        Err(fault) => Ok(fault == Fault::Board(Denial::SerialsSpent)),
+        Err(fault) => Ok(shown(fault) == (2, 10, 0)),
         Ok(of) => {
             end(&mut board, of);
             Ok(false)
@@ -75,9 +75,12 @@ fn goes_abroad<K: LogKeeper>(
     match board.abandon(of) {
         Ok(()) => None,
         Err((of, abandon)) => {
-            let unknown = Fault::Board(Denial::NoTransaction);
-            let early = put == Some(unknown) && read == Some(unknown);
-            Some((of, early && commit == unknown && abandon == unknown))
+            let unknown = (2, 4, 0);
+            let early = put.map(shown) == Some(unknown) && read.map(shown) == Some(unknown);
+            Some((
+                of,
+                early && shown(commit) == unknown && shown(abandon) == unknown,
+            ))
         }
     }
 }

@@ -1,7 +1,10 @@
 //! What a line of a captured bus log holds.
-ghost use Rattle.std.specs.Prelude.{◌≡◌, ◌/◌, length, IfOk};
+ghost use Rattle.std.specs.Prelude.{◌≡◌, ◌/◌, ◌%◌, ◌==◌, ◌&&◌, length, Some, None, Ok, IfOk};
+ghost use Rattle.std.specs.Char.{is_ascii_hexdigit};
+ghost use Rattle.std.specs.List.{list_all};
 ghost use Rattle.record.specs.Codec.{decoded};
 ghost use Rattle.buslog.specs.Verdicts.{of_decoded, of_digits, of_line};
+ghost use Rattle.buslog.specs.declared.verdict.Verdict.TheVariants.{Other};
 
 use crate::line;
 use record::{Fault, Record};
@@ -16,6 +19,20 @@ pub enum Verdict {
     Denied(Fault),
     /// A line without a payload.
     Other,
+}
+
+/// Whether all bytes are hexadecimal digits.
+fn are_digits(text: &[u8]) -> bool
+    ensures { result ≡ list_all is_ascii_hexdigit text.now }
+{
+    text.iter().all(|c| c.is_ascii_hexdigit())
+}
+
+/// Whether the text is an even number of hexadecimal digits.
+fn is_hex(text: &[u8]) -> bool
+    ensures { result ≡ (length text.now % 2 == 0 && list_all is_ascii_hexdigit text.now) }
+{
+    text.len() % 2 == 0 && are_digits(text)
 }
 
 impl Verdict {
@@ -40,15 +57,22 @@ impl Verdict {
     }
 
     fn of_digits(heap: Global, digits: &[u8]) -> Result<Verdict, AllocError>
-        ensures { IfOk result (λ v. v ≡ of_digits digits.now) }
+        ensures answer { IfOk result (λ v. v ≡ of_digits digits.now) }
+        ensures other { of_digits digits.now ≡ Other → result ≡ Ok Other }
     {
+        // the digits first: a line that holds no bytes asks for no memory, and cannot fail for want of it
+        if !is_hex(digits) {
+            return Ok(Verdict::Other);
+        }
         let mut room = vec![in heap; 0; digits.len() / 2]?;
         Ok(Verdict::of_hex(digits, room.as_mut_slice()))
     }
 
-    /// What the line holds; nothing is said of blank lines and comments.
+    /// What the line holds; nothing is said of blank lines and comments. Only a line that holds bytes can fail for want of memory.
     pub fn of_line(heap: Global, line: &[u8]) -> Result<Option<Verdict>, AllocError>
-        ensures { IfOk result (λ v. v ≡ of_line line.now) }
+        ensures answer { IfOk result (λ v. v ≡ of_line line.now) }
+        ensures skipped { of_line line.now ≡ None → result ≡ Ok None }
+        ensures other { of_line line.now ≡ Some Other → result ≡ Ok (Some Other) }
     {
         let line = line::without_return(line);
         if line::is_skipped(line) {

@@ -51,8 +51,7 @@ impl LogKeeper for RowTable<'_> {
     fn row_at(&self, place: usize) -> Row {
         self.rows[..self.used]
             .get(place)
-            .copied()
-            .unwrap_or(Row::ZERO)
+            .map_or(Row::ZERO, |row| *row)
     }
 
     fn append(&mut self, row: &Row) -> Result<(), Fault> {

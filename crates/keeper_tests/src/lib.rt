@@ -9,6 +9,8 @@ use keeper::{LogKeeper, RecordArea};
 use record::Row;
 
 #[cfg(test)]
+mod held;
+#[cfg(test)]
 mod tests;
 
 /// Lends bytes to a fresh log, which takes the row and is let go: the record is then found in the bytes, if the row was taken.

@@ -1,12 +1,12 @@
 //! Both keepers on memory of every size, filled to the end and past it, with rows that break a rule.
 use crate::keeps;
 use keeper::{LogKeeper, RecordArea, RowTable};
-use record::{Clock, Denial, Fault, NOBODY, RecordKind, Row, Update};
+use record::{Clock, Fault, NOBODY, RecordKind, Row, Update};
 use std::process::Abort;
 use std::test::Fail;
 
 /// A row that breaks no rule; another serial makes another row.
-fn row(serial: u32) -> Row {
+pub(crate) fn row(serial: u32) -> Row {
     Row {
         home: 7,
         serial,
@@ -41,15 +41,20 @@ fn holds<K: LogKeeper>(log: &K, last: u16) -> bool {
         && log.row_at(usize::MAX) == Row::ZERO
 }
 
+/// What a panel shows of a fault: its layer, its number and its place.
+fn shown(fault: Fault) -> (u8, u8, u32) {
+    (fault.layer(), fault.number(), fault.place())
+}
+
 /// Denies two bad rows, whether or not there is room.
 fn denies_bad_rows<K: LogKeeper>(rt: &impl Abort, log: &mut K) {
     let no_serial = Row {
         serial: 0,
         ..row(1)
     };
-    assert_eq!(rt; log.append(&no_serial), Err(Fault::Record(4)));
+    assert_eq!(rt; log.append(&no_serial).map_err(shown), Err((3, 3, 4)));
     let no_home = Row { home: 8, ..row(1) };
-    assert_eq!(rt; log.append(&no_home), Err(Fault::Record(1)));
+    assert_eq!(rt; log.append(&no_home).map_err(shown), Err((3, 3, 1)));
 }
 
 /// Fills a fresh log, and tries one row more.
@@ -61,8 +66,8 @@ fn fills<K: LogKeeper>(rt: &impl Abort, log: &mut K, capacity: u16) {
         assert_eq!(rt; log.append(&row(place as u32 + 1)), Ok(()));
     }
     assert!(rt; holds(log, capacity));
-    let full = Err(Fault::Keeper(Denial::LogFull));
-    assert_eq!(rt; log.append(&row(capacity as u32 + 1)), full);
+    let past = log.append(&row(capacity as u32 + 1));
+    assert_eq!(rt; past.map_err(shown), Err((4, 11, 0)));
     denies_bad_rows(rt, log);
     assert!(rt; holds(log, capacity));
 }

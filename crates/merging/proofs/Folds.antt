@@ -1,5 +1,5 @@
 -- Folds: over two lists in a row, and by a step that ends alike in either order.
-use Rattle.std.proofs.Common.{◌≡◌, ℕ, zero, suc, ◌<◌, Bool, true, false, cond, ◌≢◌, List, [], ◌∷◌, ◌++◌, length, get_or, set, fold, refl, ap, ◌∙◌, ⊎_elim, arith}
+use Rattle.std.proofs.Common.{◌≡◌, ℕ, zero, suc, ◌<◌, Bool, true, false, cond, ◌≢◌, List, [], ◌∷◌, ◌++◌, length, get_or, set, fold, sym, refl, ap, ◌∙◌, ⊎_elim, arith}
 use Rattle.std.specs.List.{flat_map, swap}
 use Rattle.std.specs.List.Sorted.{IsPermutation}
 use Rattle.std.proofs.lemmas.List.{set-get_or}
@@ -23,6 +23,15 @@ module _ {V X : Type 0} (f : V → X → V) (order : EitherOrder f) where
   pub folded_last : (v : V) (x : X) (xs : List X) → fold f v (x ∷ xs) ≡ f (fold f v xs) x
   folded_last v x [] = refl
   folded_last v x (y ∷ xs) = ap (λ w. fold f w xs) (order v x y) ∙ folded_last (f v y) x xs
+
+  -- what comes in the middle may as well come first, or last
+  pub folded_to_front : (v : V) (xs : List X) (x : X) (ys : List X) → fold f v (xs ++ (x ∷ ys)) ≡ fold f v (x ∷ (xs ++ ys))
+  folded_to_front v xs x ys =
+      folded_append f v xs (x ∷ ys) ∙ ap (λ w. fold f w ys) (sym (folded_last v x xs)) ∙ sym (folded_append f (f v x) xs ys)
+
+  pub folded_to_end : (v : V) (xs : List X) (x : X) (ys : List X) → fold f v (xs ++ (x ∷ ys)) ≡ fold f v ((xs ++ ys) ++ (x ∷ []))
+  folded_to_end v xs x ys =
+      folded_to_front v xs x ys ∙ folded_last v x (xs ++ ys) ∙ sym (folded_append f v (xs ++ ys) (x ∷ []))
 
   -- two lists may come in either order
   pub folded_order : EitherOrder (fold f)

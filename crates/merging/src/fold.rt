@@ -44,6 +44,7 @@ fn step_through<M: MergingKind>(value: M::Value, updates: &[Update], of: Element
 }
 
 /// The value of this element once the updates have changed it, from `value` on. The updates in any other order give the same.
+#[tactic(auto, using(crate::proofs::Values::value_reordered))]
 pub fn merged<M: MergingKind>(value: M::Value, updates: &[Update], of: ElementId) -> M::Value
     ensures answer { result ≡ value_after M.stepped of.object of.element value updates.now }
     ensures reordered { (others : List Update) → IsPermutation updates.now others → value_after M.stepped of.object of.element value others ≡ result }

@@ -1,16 +1,19 @@
 //! The rows of a log, one after the other.
-ghost use Rattle.std.specs.Prelude.{◌≡◌};
+ghost use Rattle.std.specs.Prelude.{◌≡◌, length};
 ghost use Rattle.std.specs.Iterator.{YieldsFirst, item_count};
 
 use keeper::LogKeeper;
 use record::Row;
 use std::marker::Model;
 
-/// The rows of a log from a place on, seen as the list of those that are left.
+/// The rows of a log from a place on, seen as the list of those that are left. A keeper is asked once how many it has: nothing says that
+/// this is cheap.
 #[derive(Drop)]
 pub(crate) struct Rows<'a, K: LogKeeper> {
     log: &'a K,
     place: usize,
+    end: usize,
+    ghost counted: { end ≡ length (K.rows log.now) },
 }
 
 impl<'a, K: LogKeeper> Model for Rows<'a, K> {
@@ -26,7 +29,11 @@ impl<'a, K: LogKeeper> Model for Rows<'a, K> {
 pub(crate) fn rows_of<K: LogKeeper>(log: &K) -> Rows<'_, K>
     ensures { result ≡ K.rows log.now }
 {
-    Rows { log, place: 0 }
+    Rows {
+        log,
+        place: 0,
+        end: log.count(),
+    }
 }
 
 impl<'a, K: LogKeeper> Iterator for Rows<'a, K> {
@@ -38,7 +45,7 @@ impl<'a, K: LogKeeper> Iterator for Rows<'a, K> {
 
     fn next(&mut self) -> Option<Row> {
         let place = self.place;
-        if place < self.log.count() {
+        if place < self.end {
             self.place = place + 1;
             return Some(self.log.row_at(place));
         }

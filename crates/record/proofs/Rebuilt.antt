@@ -59,8 +59,8 @@ found_passes p (y ∷ ys) x e =
     [ true ↦ λ h q. (let s : x ≡ y = cc in ap p s ∙ h) | false ↦ λ h q. found_passes p ys x q ] in
     by (p y) refl e
 
-pub find_code : (code : ℕ) (f : KindRules) → Some f ≡ rules_of code → code_of f.kind ≡ code
-find_code code f e = eqb-true _ _ (found_passes (λ k. eqb (code_of k.kind) code) kinds f e)
+pub find_code : (code : ℕ) (fs : List KindRules) (f : KindRules) → Some f ≡ find (λ k. eqb (code_of k.kind) code) fs → code_of f.kind ≡ code
+find_code code fs f e = eqb-true _ _ (found_passes (λ k. eqb (code_of k.kind) code) fs f e)
 
 -- ## Numbers taken apart
 
@@ -132,7 +132,7 @@ decoded_only bs small m e =
     let f : KindRules = b.0 in
     let c = unless_ok (offence f (record_at f.kind bs) (u16_at bs 10) (u32_at bs 60)) (record_at f.kind bs) m b.2 in
     ap bytes_of (sym c.1)
-    ∙ put_back bs small f.kind n (find_code (get_or bs 0 0) f b.1)
+    ∙ put_back bs small f.kind n (find_code (get_or bs 0 0) kinds f b.1)
     (none_gap f (record_at f.kind bs) (u16_at bs 10) (u32_at bs 60) c.0) (none_tail f (record_at f.kind bs) (u16_at bs 10) (u32_at bs 60) c.0)
     ∙ sym (fill_by_all (λ i. get_or bs i 0) bs 64 0 n (λ k h. refl))
 
@@ -144,7 +144,7 @@ decoded_sound bs m e =
     let f : KindRules = b.0 in
     let R : Record = record_at f.kind bs in
     let c = unless_ok (offence f R (u16_at bs 10) (u32_at bs 60)) R m b.2 in
-    let code : code_of f.kind ≡ get_or bs 0 0 = find_code (get_or bs 0 0) f b.1 in
+    let code : code_of f.kind ≡ get_or bs 0 0 = find_code (get_or bs 0 0) kinds f b.1 in
     ap breaks (sym c.1) ∙ ap (λ o. by_kind o R) (ap rules_of code ∙ sym b.1)
     ∙ ap (λ g. offence f R g 0) (sym (none_gap f R (u16_at bs 10) (u32_at bs 60) c.0))
     ∙ ap (λ t. offence f R (u16_at bs 10) t) (sym (none_tail f R (u16_at bs 10) (u32_at bs 60) c.0))

@@ -1,5 +1,5 @@
 //! Which field of a record breaks a rule first.
-ghost use Rattle.std.specs.Prelude.{◌≡◌, ◌<◌};
+ghost use Rattle.std.specs.Prelude.{◌≡◌, ◌<◌, [], ◌∷◌};
 ghost use Rattle.record.specs.Rules.{first, receives, head_rules, clock_rules, zero_rules, update_rules, offence};
 ghost use Rattle.record.specs.Codec.{unless};
 
@@ -18,12 +18,16 @@ fn may_receive(kind: RecordKind, sender: u8, receiver: u8) -> bool
     }
 }
 
-/// Denies the first place that is not in order, among places with whether what stands there is.
-fn check_places(rules: &[(u32, bool)]) -> Result<(), Fault>
-    ensures { result ≡ unless (first rules.now) tt }
+/// Denies a place if what stands there is not in order. One at a time: a list of places to look through would be laid out whole for each
+/// record, and a walk of a log checks one for each of its rows.
+fn in_order(place: u32, is: bool) -> Result<(), Fault>
+    ensures { result ≡ unless (first ((place, is) ∷ [])) tt }
 {
-    let broken = rules.iter().find(|rule| !rule.1).copied();
-    broken.map_or(Ok(()), |rule| Err(Fault::Record(rule.0)))
+    if is {
+        Ok(())
+    } else {
+        Err(Fault::Record(place))
+    }
 }
 
 impl Clock {
@@ -42,15 +46,13 @@ impl Update {
         requires { place < 64 }
         ensures { result ≡ unless (first (zero_rules place self.now)) tt }
     {
-        check_places(&[
-            (place, self.object == 0),
-            (place + 2, self.element == 0),
-            (place + 4, self.operand == 0),
-        ])
+        in_order(place, self.object == 0)?;
+        in_order(place + 2, self.element == 0)?;
+        in_order(place + 4, self.operand == 0)
     }
 }
 
-#[tactic(auto, using(crate::proofs::Offences::update_used, crate::proofs::Offences::update_unused))]
+#[tactic(auto, using(crate::proofs::Offences::update_used_at, crate::proofs::Offences::update_unused_at))]
 fn check_updates(used: u8, updates: &[Update; 4]) -> Result<(), Fault>
     ensures { result ≡ unless (first (update_rules used 28 updates.now)) tt }
 {
@@ -66,14 +68,12 @@ impl KindRules {
     fn check_head(&self, record: &Record, gap: u16) -> Result<(), Fault>
         ensures { result ≡ unless (first (head_rules self.now «record».now gap)) tt }
     {
-        check_places(&[
-            (1, record.sender < 8),
-            (2, may_receive(self.kind, record.sender, record.receiver)),
-            (3, self.detail.admit(record.detail as u32)),
-            (4, self.serial.admit(record.serial)),
-            (8, self.number.admit(record.number as u32)),
-            (10, gap == 0),
-        ])
+        in_order(1, record.sender < 8)?;
+        in_order(2, may_receive(self.kind, record.sender, record.receiver))?;
+        in_order(3, self.detail.admit(record.detail as u32))?;
+        in_order(4, self.serial.admit(record.serial))?;
+        in_order(8, self.number.admit(record.number as u32))?;
+        in_order(10, gap == 0)
     }
 
     /// Denies a record that breaks a rule, with the place of the first field that does.
@@ -87,6 +87,6 @@ impl KindRules {
         self.check_head(record, gap)?;
         record.start.check(top)?;
         check_updates(used, &record.updates)?;
-        check_places(&[(60, tail == 0)])
+        in_order(60, tail == 0)
     }
 }

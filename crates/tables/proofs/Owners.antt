@@ -1,6 +1,6 @@
 -- Who has locked an object, and what taking and freeing locks does to that.
-use Rattle.std.proofs.Common.{◌≡◌, ℕ, ◌+◌, ◌≤◌, true, false, cond, not, ◌&&◌, eqb, List, [], ◌∷◌, Some, None, Option, sym, refl, ap, ◌∙◌, inl, inr, arith}
-use Rattle.std.proofs.lemmas.Bool.{eqb-true, eqb-false, eq-eqb, ne_eqb, cases_Bool, and_parts, and_right, not-true, cond-true, cond-false, false≢true}
+use Rattle.std.proofs.Common.{◌≡◌, ℕ, zero, suc, ◌+◌, ◌≤◌, true, false, cond, not, ◌&&◌, eqb, List, [], ◌∷◌, replicate, Some, None, Option, sym, refl, ap, ◌∙◌, inl, inr, arith}
+use Rattle.std.proofs.lemmas.Bool.{eqb-true, eqb-false, eq-eqb, ne_eqb, cases_Bool, and_parts, and_from, and_right, not-true, cond-true, cond-false, false≢true}
 use Rattle.std.proofs.lemmas.Bool.Decides.{nat_tests}
 use Rattle.std.proofs.lemmas.List.Sums.{sum_by-cons}
 use Rattle.std.specs.Option.{is_none}
@@ -34,6 +34,9 @@ none_is : {A : Type 0} (x : Option A) → is_none x ≡ true → x ≡ None
 none_is None e = refl
 none_is (Some y) e = cc
 
+pub none_unlocked : (ls : List (Option Lock)) (o : ℕ) → lock_of ls o ≡ None → is_unlocked ls o ≡ true
+none_unlocked ls o e = unlocked_is ls o ∙ ap is_none e
+
 pub unlocked_none : (ls : List (Option Lock)) (o : ℕ) → is_unlocked ls o ≡ true → lock_of ls o ≡ None
 unlocked_none ls o e = none_is (lock_of ls o) (sym (unlocked_is ls o) ∙ e)
 
@@ -53,22 +56,47 @@ locked_by (Some l ∷ ls) h s o one e =
     let rest = locked_by ls h s o one.1 in
     grind (arith, nat_tests, e, none, rest)
 
+pub owner_locks : (ls : List (Option Lock)) (h s o : ℕ) → lock_of ls o ≡ Some (h, s) → is_locked_by ls h s o ≡ true
+owner_locks [] h s o e = cc
+owner_locks (None ∷ ls) h s o e = owner_locks ls h s o e
+owner_locks (Some l ∷ ls) h s o e =
+    elim (cases_Bool (eqb l.object o)) [
+      | inl t ↦
+          let is : ◌≡◌ {A = Option (ℕ × ℕ)} (Some (l.owner.home, l.owner.serial)) (Some (h, s)) = simp t at e in
+          let both : ◌≡◌ {A = ℕ × ℕ} (l.owner.home, l.owner.serial) (h, s) = cc in
+          let home : eqb l.owner.home h ≡ true = eq-eqb l.owner.home h (ap (λ (q : ℕ × ℕ). q.0) both) in
+          let serial : eqb l.owner.serial s ≡ true = eq-eqb l.owner.serial s (ap (λ (q : ℕ × ℕ). q.1) both) in
+          simp (t, home, serial)
+      | inr f ↦
+          let rest : lock_of ls o ≡ Some (h, s) = simp f at e in
+          simp f (owner_locks ls h s o rest)
+    ]
+
+-- free places lock nothing
+pub free_none : (n o : ℕ) → lock_of (replicate n None) o ≡ None
+free_none zero o = refl
+free_none (suc n) o = free_none n o
+
+pub free_single : (n : ℕ) → Single (replicate n None)
+free_single zero = tt
+free_single (suc n) = free_single n
+
 -- ## One lock more
 
 module _ (o h s : ℕ) where
-  taken_same : (ls : List (Option Lock)) → is_unlocked ls o ≡ true → 1 ≤ free_locks ls → lock_of (with_lock ls o h s) o ≡ Some (h, s)
+  pub taken_same : (ls : List (Option Lock)) → is_unlocked ls o ≡ true → 1 ≤ free_locks ls → lock_of (with_lock ls o h s) o ≡ Some (h, s)
   taken_same [] e n = let z : ⊥ = omega arith in absurd z
   taken_same (None ∷ ls) e n = simp (eq-eqb o o refl)
   taken_same (Some l ∷ ls) e n =
       let rest = taken_same ls in
       grind (arith, nat_tests, e, n, rest)
 
-  taken_other : (ls : List (Option Lock)) (q : ℕ) → eqb o q ≡ false → lock_of (with_lock ls o h s) q ≡ lock_of ls q
+  pub taken_other : (ls : List (Option Lock)) (q : ℕ) → eqb o q ≡ false → lock_of (with_lock ls o h s) q ≡ lock_of ls q
   taken_other [] q f = refl
   taken_other (None ∷ ls) q f = simp f
   taken_other (Some l ∷ ls) q f = ap (λ r. cond (eqb l.object q) (Some (l.owner.home, l.owner.serial)) r) (taken_other ls q f)
 
-  taken_single : (ls : List (Option Lock)) → is_unlocked ls o ≡ true → Single ls → Single (with_lock ls o h s)
+  pub taken_single : (ls : List (Option Lock)) → is_unlocked ls o ≡ true → Single ls → Single (with_lock ls o h s)
   taken_single [] e one = one
   taken_single (None ∷ ls) e one = (e, one)
   taken_single (Some l ∷ ls) e one =
@@ -76,7 +104,7 @@ module _ (o h s : ℕ) where
       let apart : eqb o l.object ≡ false = ne_eqb o l.object (λ same. eqb-false l.object o (not-true (eqb l.object o) p.0) (sym same)) in
       (same_unlocked (with_lock ls o h s) ls l.object (taken_other ls l.object apart) ∙ one.0, taken_single ls p.1 one.1)
 
-  taken_free : (ls : List (Option Lock)) → 1 ≤ free_locks ls → free_locks (with_lock ls o h s) + 1 ≡ free_locks ls
+  pub taken_free : (ls : List (Option Lock)) → 1 ≤ free_locks ls → free_locks (with_lock ls o h s) + 1 ≡ free_locks ls
   taken_free [] n = let z : 1 ≤ 0 = n in omega arith
   taken_free (None ∷ ls) n =
       let was : free_locks (None ∷ ls) ≡ 1 + free_locks ls = sum_by-cons (λ place. cond (is_none place) 1 0) None ls in
@@ -162,6 +190,19 @@ module _ (c : Config) (h s : ℕ) where
   pub locks_taken : (ls : List (Option Lock)) (us : List Update) (o : ℕ) → count_ours c us ≤ free_locks ls → lock_of (with_locks c ls h s us) o ≡ cond (is_ours c o && (writes us o && is_unlocked ls o)) (Some (h, s)) (lock_of ls o)
   locks_taken ls us o n = let few = wanted_few c ls us in locks_from ls us o (omega arith)
 
+  pub locks_new : (ls : List (Option Lock)) (us : List Update) (o : ℕ) → count_ours c us ≤ free_locks ls → is_ours c o ≡ true → writes us o ≡ true → is_unlocked ls o ≡ true → lock_of (with_locks c ls h s us) o ≡ Some (h, s)
+  locks_new ls us o n ours written loose =
+      locks_taken ls us o n ∙ cond-true _ _ _ (and_from _ _ ours (and_from _ _ written loose))
+
+  pub locks_kept : (ls : List (Option Lock)) (us : List Update) (o : ℕ) → count_ours c us ≤ free_locks ls → (is_ours c o && (writes us o && is_unlocked ls o)) ≡ false → lock_of (with_locks c ls h s us) o ≡ lock_of ls o
+  locks_kept ls us o n e = locks_taken ls us o n ∙ cond-false _ _ _ e
+
+  -- a lock stays its owner's
+  pub locks_held : (ls : List (Option Lock)) (us : List Update) (o a b : ℕ) → count_ours c us ≤ free_locks ls → lock_of ls o ≡ Some (a, b) → lock_of (with_locks c ls h s us) o ≡ Some (a, b)
+  locks_held ls us o a b n e =
+      let tight : is_unlocked ls o ≡ false = some_locked ls o a b e in
+      locks_kept ls us o n (and_right (is_ours c o) _ (and_right (writes us o) _ tight)) ∙ e
+
   pub locks_single : (ls : List (Option Lock)) (us : List Update) → Single ls → Single (with_locks c ls h s us)
   locks_single ls [] one = one
   locks_single ls (u ∷ us) one =
@@ -197,3 +238,19 @@ module _ (h s : ℕ) where
       let loose : is_unlocked (without_owner h s ls) l.object ≡ true =
       unlocked_is (without_owner h s ls) l.object ∙ ap is_none (owner_gone ls l.object one.1 ∙ ap (λ r. without h s r) (unlocked_none ls l.object one.0)) in
       elim (cases_Bool (eqb l.owner.home h && eqb l.owner.serial s)) [ inl own ↦ simp own rest | inr other ↦ simp other (loose, rest) ]
+
+  pub gone_own : (ls : List (Option Lock)) (o : ℕ) → Single ls → lock_of ls o ≡ Some (h, s) → lock_of (without_owner h s ls) o ≡ None
+  gone_own ls o one e =
+      owner_gone ls o one ∙ (ap (λ r. without h s r) e ∙ cond-true _ _ _ (and_from _ _ (eq-eqb h h refl) (eq-eqb s s refl)))
+
+  pub gone_none : (ls : List (Option Lock)) (o : ℕ) → Single ls → lock_of ls o ≡ None → lock_of (without_owner h s ls) o ≡ None
+  gone_none ls o one e = owner_gone ls o one ∙ ap (λ r. without h s r) e
+
+  pub gone_other : (ls : List (Option Lock)) (o a b : ℕ) → Single ls → (a ≡ h → b ≡ s → ⊥) → lock_of ls o ≡ Some (a, b) → lock_of (without_owner h s ls) o ≡ Some (a, b)
+  gone_other ls o a b one apart e =
+      let other : (eqb a h && eqb b s) ≡ false =
+      elim (cases_Bool (eqb a h && eqb b s)) [
+        | inl t ↦ let p = and_parts (eqb a h) (eqb b s) t in absurd (apart (eqb-true a h p.0) (eqb-true b s p.1))
+        | inr f ↦ f
+      ] in
+      owner_gone ls o one ∙ (ap (λ r. without h s r) e ∙ cond-false _ _ _ other)

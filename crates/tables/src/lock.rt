@@ -5,10 +5,10 @@ ghost use Rattle.std.specs.Option.{is_none};
 ghost use Rattle.config.specs.Objects.{polled_for};
 ghost use Rattle.record.specs.Rows.{updates_of};
 ghost use Rattle.tables.specs.Changes.{all_locked, all_unlocked, lockable, relocked, locked, released};
-ghost use Rattle.tables.specs.Locks.{is_owned, is_unlocked, is_locked_by, free_locks, with_lock};
+ghost use Rattle.tables.specs.Locks.{is_owned, is_unlocked, is_locked_by, free_locks, with_lock, with_locks};
 
 use crate::tables::Tables;
-use record::{Denial, Fault, Row, TransactionId};
+use record::{Denial, Fault, Row, TransactionId, Update};
 
 /// A lock: an object, and the transaction that owns it.
 #[derive(Clone, Copy, PartialEq, Eq, Debug)]
@@ -17,11 +17,11 @@ pub struct Lock {
     pub owner: TransactionId,
 }
 
-/// What is left of a lock place without this owner. A function, since in the loop the check does not split the place.
-fn without(place: Option<Lock>, owner: TransactionId) -> Option<Lock>
-    ensures { result ≡ cond (is_owned owner.home owner.serial place) None place }
+/// Whether a lock place holds a lock of this owner. A function, since in the loop the check does not split the place.
+fn is_owned(place: &Option<Lock>, owner: TransactionId) -> bool
+    ensures { result ≡ is_owned owner.home owner.serial place.now }
 {
-    place.filter(|lock| lock.owner != owner)
+    place.is_some_and(|lock| lock.owner == owner)
 }
 
 impl Tables {
@@ -93,28 +93,45 @@ impl Tables {
         }
     }
 
-    /// Locks our objects that the row writes for its transaction, but for those that are locked already.
-    pub fn lock_for(&mut self, row: &Row)
-        ensures { self.new ≡ locked self.old row.now }
+    // The two loops stand apart from the public calls, which then need no proof file: an edit of these is refused by their contracts.
+    /// Locks our objects among those written for this owner, but for those that are locked already.
+    fn lock_all(&mut self, owner: TransactionId, updates: &[Update])
+        ensures { self.new ≡ relocked self.old (with_locks self.old.config self.old.locks owner.home owner.serial updates.now) }
     {
-        for update in row.updates() {
+        for update in updates {
             if self.config.is_ours(update.object) && self.is_unlocked(update.object) {
                 self.lock(Lock {
                     object: update.object,
-                    owner: row.id(),
+                    owner,
                 });
             }
         }
     }
 
-    /// Frees the locks of a transaction.
+    /// Frees the locks of this owner.
     #[tactic(auto, using(crate::proofs::LockSteps::freed_more))]
+    fn free_all(&mut self, owner: TransactionId)
+        ensures { self.new ≡ released self.old owner.home owner.serial }
+    {
+        for place in &mut self.locks {
+            if is_owned(place, owner) {
+                *place = None;
+            }
+        }
+    }
+
+    /// Locks our objects that the row writes for its transaction, but for those that are locked already.
+    pub fn lock_for(&mut self, row: &Row)
+        ensures { self.new ≡ locked self.old row.now }
+    {
+        self.lock_all(row.id(), row.updates());
+    }
+
+    /// Frees the locks of a transaction.
     pub fn release(&mut self, id: TransactionId)
         ensures { self.new ≡ released self.old id.home id.serial }
     {
-        for place in &mut self.locks {
-            *place = without(*place, id);
-        }
+        self.free_all(id);
     }
 
     /// The other boards that are preferred for a regular object that the row writes.
